@@ -13,7 +13,8 @@ use Rattle.machine_layout.specs.Layout.{size_of, need}
 use Rattle.theory_verdicts.specs.Running.{start_of}
 use Rattle.machine_start.specs.Start.{started}
 use Rattle.machine_start.specs.StartLaws.{start-accepts}
-use Rattle.demand.specs.Pushes.{push_refusals, push_answers, pushes-from-start}
+use Rattle.demand.specs.Pushes.{push_refusals, push_answers}
+use Rattle.demand.proofs.Pushes.{pushes-from-start}
 use Rattle.examples.specs.Sheets.{bytes, lesser}
 use Rattle.demand_ends.specs.ResultBytes.{spelled}
 use Rattle.value.specs.Bytes.{bytes_of}

@@ -1,10 +1,6 @@
-pub mod Positions
 pub mod FormedGraphs
 pub mod BitsRise
-pub mod StoredConstants
-pub mod MadeSound
 pub mod StandsValid
-pub mod Lent
 pub mod WrittenRecords
 pub mod StartedStands
 pub mod StartCases

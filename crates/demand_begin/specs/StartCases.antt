@@ -16,10 +16,10 @@ pub record Case : Type 0 where
   pub lent : ℕ
   pub gives : StartAnswer
 
-abbrev given : List ℕ → List ℕ → ℕ → ℕ → StartAnswer → Case
+abbrev pub given : List ℕ → List ℕ → ℕ → ℕ → StartAnswer → Case
 given s l c n a = record { sheet = s; line = l; capacity = c; lent = n; gives = a }
 
-abbrev figures : ℕ → ℕ → ℕ → StartAnswer
+abbrev pub figures : ℕ → ℕ → ℕ → StartAnswer
 figures o i w = record { refusal = 0; row = 0; operators = o; inputs = i; results = w }
 
 unfoldable pub starts : List Case
@@ -42,7 +42,3 @@ starts =
     ∷ given (bytes lesser) (bytes "WE\n") 1 40390 (refusal KindsLine 0)
     ∷ given (bytes lesser) (bytes "WT\n") 1 40390 (refusal KindsBroken 4)
     ∷ []
-
-pub starts-worked : map (λ c. (started c.sheet c.line c.capacity (replicate c.lent 0)).answer) starts ≡ map (λ c. c.gives) starts
-unfolding starts started capacity_in verdict_of formula_of
-starts-worked = refl

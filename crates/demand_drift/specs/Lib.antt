@@ -1,5 +1,4 @@
 pub mod Fields
 pub mod Evaluates
-pub mod EvaluatedNear
 pub mod TakenNear
 pub mod OneDrift

@@ -1,3 +1,1 @@
-pub mod RefusedSets
 pub mod RightKinds
-pub mod LesserKinds

@@ -17,7 +17,6 @@ use Rattle.demand.specs.MemoryCalls.{Call, push, fire, take, Result, memory_afte
 use Rattle.demand.specs.Claim.{OwnVerdicts}
 
 -- ---- the calls that lines name
-
 -- "1 and a set number, 2 and an operator number, or 3 and 0, for push, fire, take": set n of the list is `set n`, each call is lent so many bytes of the machine's
 -- memory, a take also room for its result. A malformed line names no call; it is refused with 15.
 abbrev pub call_of : (ℕ → List ℕ) → ℕ → Line → List Call
@@ -55,7 +54,6 @@ abbrev pub bytes_of : List Result → List (List ℕ)
 bytes_of = map (λ (r : Result). r.bytes)
 
 -- ---- the tests before a log is followed
-
 -- 11, 14, the sheet's with its kinds line, and 12 are not given.
 pub record Opened (sheet line : List ℕ) (capacity : ℕ) (sets : List ℕ) (number : ℕ) (log m out : List ℕ) : Type 0 where
   -- 11 for the machine, 14 and the sheet's: "an empty machine of a given capacity" can be had
@@ -70,15 +68,11 @@ abbrev pub NoneAtFault : ℕ → List ℕ → Type 0
 NoneAtFault number log = (j : ℕ) → 1 ≤ j → j ≤ line_count log → line_well number log j ≡ true
 
 -- ---- a check
-
 -- The sets that the push lines among these name: "Sets count from 1 in a list lent like a tray."
 abbrev pub sets_named : List ℕ → List ℕ → List ℕ → ℕ → List Line → List (List ℕ)
 sets_named sheet line sets number lines = sets_of_lines (set_named sheet line sets number) lines
 
 module _ (sheet line : List ℕ) (capacity : ℕ) (sets : List ℕ) (number : ℕ) (log m out : List ℕ) where
-  abbrev pub check : Checked
-  check = checked sheet line capacity sets number log m out
-
   -- "an empty machine of a given capacity"
   abbrev pub start : List ℕ
   start = (started sheet line capacity m).mem
@@ -87,42 +81,8 @@ module _ (sheet line : List ℕ) (capacity : ℕ) (sets : List ℕ) (number : �
   abbrev pub calls : List Line → List Call
   calls lines = calls_of (set_named sheet line sets number) (length m) lines
 
-  abbrev pub results : List Line → List Result
-  results lines = results_taken (calls lines) start
-
   -- "every line would have been accepted", nothing being refused before
   pub record AcceptedLog : Type 0 where
     pub opened : Opened sheet line capacity sets number log m out
     pub lines : NoneAtFault number log
     pub accepted : AllAccepted (answers_of (calls (lines_of log)) start)
-
-  -- The answer to the call of line j.
-  abbrev pub answerTo : ℕ → Answer
-  answerTo j = get_or (answers_of (calls (lines_of log)) start) (j - 1) (answers 0 0)
-
-  -- "when the machine would refuse the line, .. the lowest such line": line j, nothing being refused before
-  pub record RefusedLine (j : ℕ) : Type 0 where
-    pub opened : Opened sheet line capacity sets number log m out
-    pub lines : NoneAtFault number log
-    pub first : 1 ≤ j
-    pub before : (i : ℕ) → 1 ≤ i → i < j → (answerTo i).refusal ≡ 0
-    pub refused : (answerTo j).refusal ≢ 0
-
-  -- What the check tells and leaves, by the lines that it followed to their end.
-  pub record LeftBy (lines : List Line) : Type 0 where
-    -- the machine
-    pub machine : check.mem ≡ memory_after_all (calls lines) start
-    -- "hands out the results", one behind the other; "bytes past what a call writes out keep what they held"
-    pub written : check.out ≡ flatten (bytes_of (results lines)) ++ drop (80 * length (results lines)) out
-    -- "and their count"
-    pub counted : check.answer.count ≡ length (results lines)
-    pub wide : AllWide check.answer.width (results lines)
-    -- the sets pushed are those that the lines name
-    pub pushed : sets_pushed (calls lines) start ≡ sets_named sheet line sets number lines
-
-  -- Calls on the machine that the check has left after these lines: demand 3 holds of the lines' calls and those together.
-  pub record GoesOn (lines : List Line) (more : List Call) : Type 0 where
-    pub own : OwnVerdicts sheet line capacity start (calls lines ++ more)
-    pub machine : memory_after_all (calls lines ++ more) start ≡ memory_after_all more check.mem
-    pub pushed : sets_pushed (calls lines ++ more) start ≡ sets_named sheet line sets number lines ++ sets_pushed more check.mem
-    pub taken : results_taken (calls lines ++ more) start ≡ results lines ++ results_taken more check.mem

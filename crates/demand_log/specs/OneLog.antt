@@ -2,7 +2,6 @@
 -- bytes that its machine needs, with a list of one set, the whole number 7. A push and a take are accepted and hand out 7; a firing behind them is refused, with 16 at
 -- line 3, and leaves that result; a push of set 2 is refused with 15.
 use Rattle.std.specs.Prelude.{ℕ, ◌≡◌, refl, get_or, take as first_of}
-use Rattle.std.proofs.Common.{ap}
 use mathlib.Core.List.{List, [], ◌∷◌, map, flatten}
 use Rattle.value.specs.Bytes.{word_of, word_at, stored, word_bytes, value_of}
 use Rattle.examples.specs.Sheets.{bytes}
@@ -17,8 +16,6 @@ use Rattle.machine_calls.specs.Calls.{standing, input_room, rooms_ok, entered_fr
 use Rattle.machine_log.specs.Lines.{lines_of, line_well}
 use Rattle.machine_log.specs.Checked.{Checked, checked}
 use Rattle.demand.specs.LesserStarts.{zeros}
-use Rattle.demand_log.specs.LogCalls.{AcceptedLog}
-use Rattle.demand_log.specs.Logs.{log-accepted-iff}
 
 abbrev pub seven : List ℕ
 seven = 1 ∷ 7 ∷ 0 ∷ 0 ∷ 0 ∷ []
@@ -38,14 +35,3 @@ then-fired = bytes "     1     1\n     3     0\n     2     0\n"
 
 unfoldable pub unlisted : List ℕ
 unlisted = bytes "     1     2\n"
-
-pub three-logs : map (λ (log : List ℕ). told (check log)) (taken-at-once ∷ then-fired ∷ unlisted ∷ [])
-    ≡ (0 ∷ 0 ∷ 1 ∷ 1 ∷ seven) ∷ (16 ∷ 3 ∷ 1 ∷ 1 ∷ seven) ∷ (15 ∷ 1 ∷ 0 ∷ 0 ∷ zeros 5) ∷ []
-unfolding checked bytes capacity_in verdict_of set_ok lines_of line_well zeros pushed standing valid all_below figures_ok counts_ok unlike unlike_at fresh_at result_ok input_ok letter_ok port_ok named_ok register_ok kind_ok operator_ok token_ok stretch_ok link_ok_from pushed_memory triggered_from entered_from rooms_ok input_room taken taken_memory emptied_from written_from result_word_from result_ready_from number16 name_at head_from token_from room_from removed_from appended_from head_of room_in appended removed word_of word_at stored word_bytes value_of stored16 fired flatten taken-at-once then-fired unlisted
-three-logs = refl
-
--- So the log of a push and a take is one "of which every line would have been accepted".
-pub accepted-log : AcceptedLog (bytes "     1     0     0     0     0\n") (bytes "W\n") 1 seven 1 taken-at-once (zeros 40390) (zeros 80)
-accepted-log =
-    (log-accepted-iff (bytes "     1     0     0     0     0\n") (bytes "W\n") 1 seven 1 taken-at-once (zeros 40390) (zeros 80)
-    ).0 (ap (λ (told : List (List ℕ)). get_or (get_or told 0 []) 0 0) three-logs)

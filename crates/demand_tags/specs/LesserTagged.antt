@@ -1,8 +1,6 @@
 -- The one thing that the claim assumes can be met: document 01's example, the lesser of two, starts with tags in 319,856 bytes, the claim holds of every list of calls from there, and the first
 -- push, of 3 and 5, is accepted under tag 0. Assumes nothing.
 use Rattle.std.specs.Prelude.{ℕ, ◌≤◌, ◌≡◌, refl, true, false, List, [], ◌∷◌, length}
-use Rattle.std.proofs.Common.{ap, arith}
-use Rattle.std.proofs.lemmas.List.{length-replicate}
 use Rattle.examples.specs.Sheets.{bytes, lesser}
 use Rattle.value_sets.specs.Sets.{set_ok}
 use Rattle.formula.specs.Sheet.{fields_of}
@@ -15,11 +13,7 @@ use Rattle.machine_start.specs.StartLaws.{accepted-start}
 use Rattle.machine_planes.specs.Planes.{tagged_need}
 use Rattle.machine_tag_start.specs.TagStart.{has_for, tag_started}
 use Rattle.machine_tag_start.specs.TagStartLaws.{tag-started-accepted}
-use Rattle.demand.specs.LesserStarts.{zeros, lesser-starts}
-use Rattle.demand_tags.specs.TagLists.{Call, push, answer_of, sets_under}
-use Rattle.demand_tags.specs.OutOfOrder.{OutOfOrder}
-use Rattle.demand_tags.specs.FirstPush.{first-push, first-set}
-use Rattle.demand_tags.specs.TaggedStart.{start-begins, out_of_order}
+use Rattle.demand.specs.LesserStarts.{zeros}
 
 abbrev pub wholes : List ℕ
 wholes = bytes "WW\n"
@@ -27,30 +21,6 @@ wholes = bytes "WW\n"
 abbrev pub begun : Begun
 begun = tag_started (bytes lesser) wholes (zeros tagged_need)
 
-no-for : has_for (bytes lesser) ≡ false
-unfolding has_for lowest_from fields_of bytes lesser
-no-for = refl
-
-long : tagged_need ≤ length (zeros tagged_need)
-unfolding zeros
-long = omega (arith, length-replicate {A = ℕ} tagged_need 0)
-
-pub lesser-starts-tagged : begun.answer.refusal ≡ 0
-lesser-starts-tagged = ap (λ (b : Begun). b.answer.refusal) (tag-started-accepted (bytes lesser) wholes (zeros tagged_need) long (accepted-start (bytes lesser) wholes 1 (zeros 40390) lesser-starts).passed no-for)
-
-pub lesser-out-of-order : (calls : List Call) → OutOfOrder (bytes lesser) wholes begun.mem calls
-lesser-out-of-order calls = out_of_order (bytes lesser) wholes (zeros tagged_need) lesser-starts-tagged calls
-
 -- 3 and 5
 abbrev pub three_five : List ℕ
 three_five = 1 ∷ 3 ∷ 0 ∷ 0 ∷ 0 ∷ 1 ∷ 5 ∷ 0 ∷ 0 ∷ 0 ∷ []
-
-three-five-read : set_ok (letters_of (formula_of (bytes lesser)) wholes) three_five ≡ true
-unfolding set_ok letters_of formula_of bytes lesser
-three-five-read = refl
-
-pub lesser-first-push : answer_of (push (length begun.mem) three_five) begun.mem ≡ answers 0 0
-lesser-first-push = first-push (bytes lesser) wholes begun.mem (start-begins (bytes lesser) wholes (zeros tagged_need) lesser-starts-tagged) three_five three-five-read
-
-pub lesser-first-set : sets_under 0 (push (length begun.mem) three_five ∷ []) begun.mem ≡ three_five ∷ []
-lesser-first-set = first-set (bytes lesser) wholes begun.mem (start-begins (bytes lesser) wholes (zeros tagged_need) lesser-starts-tagged) three_five three-five-read

@@ -10,20 +10,10 @@ use Rattle.machine_start.specs.Start.{started}
 use Rattle.machine_tally.specs.declared.Tally.{Tally}
 use Rattle.machine_tally.specs.Tallied.{tallies, after_start, after_push, after_tray, after_take}
 use Rattle.demand.specs.MemoryCalls.{Call, push, tray, take, answer_of}
-use Rattle.demand.specs.LesserStarts.{zeros, lesser-starts}
-use Rattle.demand_tally.specs.TallyCounts.{tally_after, tally_after_all, firings_of_all, accepted_takes, refused_pushes, shown}
-use Rattle.demand_tally.specs.TallyShows.{recordAfter, tally-shows}
+use Rattle.demand.specs.LesserStarts.{zeros}
 
-abbrev begun : List ℕ
+abbrev pub begun : List ℕ
 begun = (started (bytes lesser) (bytes "WW\n") 1 (zeros 40390)).mem
-
-pub lesser-shows : (calls : List Call) (before : Tally)
-    → recordAfter (bytes lesser) (bytes "WW\n") 1 (zeros 40390) lesser-starts calls before ≡ shown (firings_of_all calls begun) (accepted_takes calls begun) (refused_pushes calls begun)
-lesser-shows calls before = tally-shows (bytes lesser) (bytes "WW\n") 1 (zeros 40390) lesser-starts calls before
 
 abbrev pub trial : List Call
 trial = push 0 [] ∷ tray 0 [] 2 ∷ take 0 [] ∷ []
-
-pub lesser-trial : (before : Tally) → recordAfter (bytes lesser) (bytes "WW\n") 1 (zeros 40390) lesser-starts trial before ≡ tallies 0 0 2
-unfolding tally_after_all tally_after answer_of pushed trayed taken standing after_push after_tray after_take after_start started zeros capacity_in verdict_of bytes lesser
-lesser-trial before = refl

@@ -1,14 +1,8 @@
 pub mod Sound
 pub mod Stands
-pub mod Waits
 pub mod Frame
-pub mod Moves
-pub mod Operators
 pub mod Given
 pub mod Decision
 pub mod Emitting
-pub mod Able
-pub mod Fired
 pub mod FiredHistory
 pub mod Run
-pub mod FireCall

@@ -15,12 +15,14 @@ use Rattle.formula.specs.declared.Shape.{Shape}
 use Rattle.formula.specs.declared.Shape.TheVariants.{Identifier, Constant, Pair, Operator, Let, If, For, Iter}
 use Rattle.formula.specs.Sheet.{shape_at}
 use Rattle.formula.specs.Tree.{Exp, Body, ret, exp_node, body_node, exp_of, body_of}
-use Rattle.formula.specs.TreeLaws.{exp-as, body-as}
+use Rattle.formula.proofs.TreeLaws.{exp-as, body-as}
 use Rattle.formula.specs.Widths.{width, returned, iterated}
 use Rattle.meaning.specs.Meaning.{Env, bind, Outcome, yields, Ending, again, returns, then, then_b, after, loop, branch, eval_e, eval_b}
-use Rattle.meaning.specs.Binding.{bind-append, bind-again, bind-list}
-use Rattle.meaning.specs.Rounds.{turns, turns-none, turns-step, WithinB, within-B}
-use Rattle.meaning.specs.WidthLaws.{Sized, SizedB, Suits, sized, sized-B}
+use Rattle.meaning.proofs.Binding.{bind-append, bind-again, bind-list}
+use Rattle.meaning.specs.Rounds.{turns, WithinB}
+use Rattle.meaning.proofs.Rounds.{turns-none, turns-step, within-B}
+use Rattle.meaning.specs.WidthLaws.{Sized, SizedB, Suits}
+use Rattle.meaning.proofs.WidthLaws.{sized, sized-B}
 use Rattle.eval_cycle.specs.declared.Rest.{Rest}
 use Rattle.eval_cycle.specs.declared.Rest.TheVariants.{Left, Short}
 use Rattle.eval_cycle.specs.declared.Turn.{Turn}
@@ -28,7 +30,8 @@ use Rattle.eval_cycle.specs.declared.Turn.TheVariants.{Again, Back, Short as sho
 use Rattle.eval_words.specs.declared.Single.{Single}
 use Rattle.eval_words.specs.declared.Single.TheVariants.{Word, Short as none_left}
 use Rattle.eval_words.specs.Words.{held_of, env_of, outcome_of, applying}
-use Rattle.meaning.specs.Rows.{ExpRow, BodyRow, ExpChildren, BodyChildren, Plain, exp-children, body-children, exp-sound, body-sound, exp-facts, plain-as}
+use Rattle.meaning.specs.Rows.{ExpRow, BodyRow, ExpChildren, BodyChildren, Plain}
+use Rattle.meaning.proofs.Rows.{exp-children, body-children, exp-sound, body-sound, exp-facts, plain-as}
 use Rattle.eval_words.specs.Needs.{W, exp-needs}
 use Rattle.eval_words.specs.Parts.{Operates, Pairs, by_shape}
 

@@ -17,12 +17,14 @@ use Rattle.formula.specs.declared.Shape.{Shape}
 use Rattle.formula.specs.declared.Shape.TheVariants.{Identifier, Constant, Pair, Operator, Let, If, For, Iter}
 use Rattle.formula.specs.Sheet.{shape_at}
 use Rattle.formula.specs.Tree.{Exp, Body, ret, exp_node, body_node, exp_of, body_of}
-use Rattle.formula.specs.TreeLaws.{body-as}
+use Rattle.formula.proofs.TreeLaws.{body-as}
 use Rattle.formula.specs.Widths.{width, returned, iterated}
 use Rattle.meaning.specs.Meaning.{Env, bind, yields, Ending, again, returns, then, then_b, after, branch, eval_e, eval_b}
-use Rattle.meaning.specs.Binding.{bind-again, bound-among}
-use Rattle.meaning.specs.Rounds.{turns, turns-none, turns-step, WithinB, within-B}
-use Rattle.meaning.specs.WidthLaws.{SizedB, Suits, sized-B}
+use Rattle.meaning.proofs.Binding.{bind-again, bound-among}
+use Rattle.meaning.specs.Rounds.{turns, WithinB}
+use Rattle.meaning.proofs.Rounds.{turns-none, turns-step, within-B}
+use Rattle.meaning.specs.WidthLaws.{SizedB, Suits}
+use Rattle.meaning.proofs.WidthLaws.{sized-B}
 use Rattle.eval_cycle.specs.declared.Rest.{Rest}
 use Rattle.eval_cycle.specs.declared.Rest.TheVariants.{Left, Short}
 use Rattle.eval_cycle.specs.declared.Turn.{Turn}
@@ -33,7 +35,8 @@ use Rattle.formula.specs.Ways.{way_of}
 use Rattle.formula.specs.declared.Way.{Way}
 use Rattle.formula.specs.declared.Way.TheVariants.{Iter as iter-way, Let as let-way, If as if-way, End}
 use Rattle.eval_words.specs.Words.{held_of, env_of, outcome_of, paste-binds}
-use Rattle.meaning.specs.Rows.{ExpRow, BodyRow, ExpChildren, BodyChildren, Plain, exp-children, body-children, body-sound, plain-as, ending-row}
+use Rattle.meaning.specs.Rows.{ExpRow, BodyRow, ExpChildren, BodyChildren, Plain}
+use Rattle.meaning.proofs.Rows.{exp-children, body-children, body-sound, plain-as, ending-row}
 use Rattle.eval_words.specs.Needs.{W, BodyNeeds, body-needs}
 use Rattle.eval_cycle.specs.Told.{Told, ToldB, Values, told-left, told-short, tell, tell-short, tell-short-B, then-short-B, then-yields-B, read, counted}
 

@@ -13,12 +13,14 @@ use Rattle.formula.specs.declared.Verdict.TheVariants.{Passed}
 use Rattle.formula.specs.Tree.{Exp, exp_of}
 use Rattle.formula.specs.Free.{free_e, inputs_of}
 use Rattle.meaning.specs.Meaning.{Env, bind, Outcome, yields, inputs_hold, eval_e}
-use Rattle.meaning.specs.Rounds.{Within, within}
+use Rattle.meaning.specs.Rounds.{Within}
+use Rattle.meaning.proofs.Rounds.{within}
 use Rattle.meaning.specs.Rows.{ExpRow}
 use Rattle.meaning.specs.declared.Cell.{Cell}
 use Rattle.meaning.specs.declared.Evaluation.{Evaluation}
 use Rattle.meaning.specs.Evaluate.{cell, cells_of, refused, concluded, evaluated_with, evaluated}
-use Rattle.value_sets.specs.Sets.{set_ok, set_values_lem, no-set}
+use Rattle.value_sets.specs.Sets.{set_ok}
+use Rattle.value_sets.proofs.Sets.{set_values_lem, no-set}
 use Rattle.eval_words.specs.Inputs.{inputs-below}
 use Rattle.eval_words.specs.Words.{held_of, env_of, zeros-err}
 use Rattle.eval_words.specs.Needs.{W, narrow}

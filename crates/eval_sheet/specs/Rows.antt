@@ -10,7 +10,7 @@ use Rattle.formula.specs.declared.Refusal.{Refusal}
 use Rattle.formula.specs.declared.Verdict.{Verdict}
 use Rattle.formula.specs.declared.Verdict.TheVariants.{Passed, Refused}
 use Rattle.formula.specs.Sheet.{row_count, fields_of}
-use Rattle.formula.specs.SheetLaws.{fields-length}
+use Rattle.formula.proofs.SheetLaws.{fields-length}
 use Rattle.formula.specs.Tree.{Exp, exp_of, formula_of}
 use Rattle.formula.specs.Free.{free_e, inputs_of}
 use Rattle.formula.specs.Faults.{line_well, letters_of}

@@ -11,10 +11,11 @@ use Rattle.formula.specs.Free.{free_e}
 use Rattle.formula.specs.Widths.{width}
 use Rattle.formula.specs.Faults.{letters_of}
 use Rattle.formula.specs.Tests.{verdict_of}
-use Rattle.formula.specs.Acceptance.{passed-admissible, low-row}
+use Rattle.formula.proofs.Acceptance.{passed-admissible, low-row}
 use Rattle.meaning.specs.Meaning.{Outcome, yields, inputs_hold, eval_e}
-use Rattle.meaning.specs.WidthLaws.{SoundE, Sized, sized, wide-16}
-use Rattle.meaning.specs.Accepted.{formula-sound}
+use Rattle.meaning.specs.WidthLaws.{SoundE, Sized}
+use Rattle.meaning.proofs.WidthLaws.{sized, wide-16}
+use Rattle.meaning.proofs.Accepted.{formula-sound}
 use Rattle.meaning.specs.declared.Evaluation.{Evaluation}
 use Rattle.meaning.specs.Evaluate.{concluded, evaluated_with, evaluated, after_verdict, evaluation_of}
 use Rattle.value_sets.specs.Sets.{set_values}

@@ -9,10 +9,12 @@ use Rattle.formula.specs.declared.Shape.TheVariants.{Identifier, Constant, Pair,
 use Rattle.formula.specs.Constants.{constant_most}
 use Rattle.formula.specs.Sheet.{shape_at}
 use Rattle.formula.specs.Tree.{Exp, Body, ret, iter, let_b, if_b, exp_node, body_node, exp_of, body_of}
-use Rattle.formula.specs.TreeLaws.{exp-as, body-as}
+use Rattle.formula.proofs.TreeLaws.{exp-as, body-as}
 use Rattle.formula.specs.Widths.{width, returned, iterated, wide_e, wide_b}
-use Rattle.meaning.specs.WidthLaws.{Suits, arms-suit, wide-16, wide-16-B, operator-fits, let-fits, if-fits, for-fits, let-fits-B, if-fits-B}
-use Rattle.meaning.specs.Rows.{Accepted, ExpRow, BodyRow, InBounds, ExpChildren, BodyChildren, exp-children, body-children, exp-facts, body-wide, bounds-as}
+use Rattle.meaning.specs.WidthLaws.{Suits}
+use Rattle.meaning.proofs.WidthLaws.{arms-suit, wide-16, wide-16-B, operator-fits, let-fits, if-fits, for-fits, let-fits-B, if-fits-B}
+use Rattle.meaning.specs.Rows.{Accepted, ExpRow, BodyRow, InBounds, ExpChildren, BodyChildren}
+use Rattle.meaning.proofs.Rows.{exp-children, body-children, exp-facts, body-wide, bounds-as}
 
 abbrev pub W : List ℕ → ℕ → ℕ
 W ws r = get_or ws (r - 1) 0

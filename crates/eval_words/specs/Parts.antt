@@ -9,9 +9,10 @@ use Rattle.formula.specs.declared.Shape.TheVariants.{Identifier, Constant, Pair,
 use Rattle.formula.specs.Constants.{constant_value}
 use Rattle.formula.specs.Sheet.{shape_at}
 use Rattle.formula.specs.Tree.{Exp, exp_node, exp_of, body_of}
-use Rattle.formula.specs.TreeLaws.{exp-as}
+use Rattle.formula.proofs.TreeLaws.{exp-as}
 use Rattle.meaning.specs.Meaning.{Env, yields, eval_e}
-use Rattle.meaning.specs.Rows.{ExpRow, ExpChildren, exp-children}
+use Rattle.meaning.specs.Rows.{ExpRow, ExpChildren}
+use Rattle.meaning.proofs.Rows.{exp-children}
 use Rattle.eval_words.specs.declared.Part.{Part}
 use Rattle.eval_words.specs.declared.Part.TheVariants.{Value as value-part, One, Two, Wide, Other}
 use Rattle.eval_words.specs.Words.{held_of}

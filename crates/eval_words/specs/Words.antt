@@ -18,7 +18,7 @@ use Rattle.value.specs.declared.Sense.{Sense}
 use Rattle.value.specs.declared.Sense.TheVariants.{True, False, Neither}
 use Rattle.value.specs.Senses.{err, sense, only-one-true, only-one-false}
 use Rattle.meaning.specs.Meaning.{Env, bind, Outcome, yields, then}
-use Rattle.meaning.specs.Binding.{bind_is}
+use Rattle.meaning.proofs.Binding.{bind_is}
 use Rattle.eval_words.specs.declared.Single.{Single}
 use Rattle.eval_words.specs.declared.Single.TheVariants.{Word, Short}
 

@@ -1,11 +1,9 @@
 -- The constants of rows: document 01, "The formula sheet", row kinds 2 and 3, and document 02, Job 9, row kind 10. Assumes nothing.
 use Rattle.std.specs.Prelude.{ℕ, ◌≤◌, Bool, true, false, cond, pos, eqb}
-use Rattle.std.proofs.Common.{arith}
 use Rattle.value.specs.declared.Value.{Value}
 use Rattle.value.specs.declared.Value.TheVariants.{Whole, Truth}
 use Rattle.value.specs.Bytes.{InRange}
 use Rattle.value.specs.Constants.{thousandths}
-use Rattle.value.proofs.Floats.{thousandths-in-range}
 
 -- The value of a constant, from its row kind and its field a: "2 whole number", "3 truth | a: 0 false, 1 true", "10 .. divided by 1000 with
 -- one rounding".
@@ -15,19 +13,3 @@ constant_value kind a = cond (eqb kind 3) (Truth (eqb a 1)) (cond (eqb kind 10) 
 -- The greatest a: "2 whole number | a: 0..999,999", "3 truth | a: 0 false, 1 true", "10 .. 0 to 999,999".
 abbrev pub constant_most : ℕ → ℕ
 constant_most kind = cond (eqb kind 3) 1 999999
-
-pub most-bounded : (kind a : ℕ) → a ≤ constant_most kind → a ≤ 999999
-most-bounded kind a = go (eqb kind 3)
-  where
-    go : (k3 : Bool) → a ≤ cond k3 1 999999 → a ≤ 999999
-    go true h = omega (arith, h)
-    go false h = h
-
--- A byte form holds every constant.
-pub constant-in-range : (kind a : ℕ) → a ≤ constant_most kind → InRange (constant_value kind a)
-constant-in-range kind a = go (eqb kind 3) (eqb kind 10)
-  where
-    go : (k3 k10 : Bool) → a ≤ cond k3 1 999999 → InRange (cond k3 (Truth (eqb a 1)) (cond k10 (thousandths a) (Whole (pos a))))
-    go true k10 h = tt
-    go false true h = thousandths-in-range a h
-    go false false h = omega (arith, h)

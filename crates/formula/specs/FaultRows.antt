@@ -1,53 +1,17 @@
 -- Document 02, Job 6, 18: "lowest row given". The row given is one of those at fault and none of them is lower. Assumes nothing.
 use Rattle.std.specs.Prelude.{ℕ, ◌≤◌, ◌<◌, ◌≡◌, refl, ◌⊎◌, Bool, true, false, cond, List, [], ◌∷◌, leb}
-use Rattle.std.proofs.Common.{sym, subst, inl, inr, leb-true, leb-false, arith}
 use Rattle.formula.specs.declared.Check.{Check}
 use Rattle.formula.specs.declared.Check.TheVariants.{Passed, Fault}
-use Rattle.formula.specs.Faults.{lower, lowest_of}
 
 -- One of a list.
 abbrev pub Among : {A : Type 0} → A → List A → Type 0
 Among k [] = ⊥
 Among k (r ∷ rs) = (k ≡ r) ⊎ Among k rs
 
-abbrev Passes : Check → Type 0
+abbrev pub Passes : Check → Type 0
 Passes Passed = Unit {0}
 Passes (Fault r) = ⊥
-
-fault-lower : (r : ℕ) (c : Check) → Passes (lower r c) → ⊥
-fault-lower r Passed h = h
-fault-lower r (Fault k) h = h
-
-pub none-lowest : (rs : List ℕ) → lowest_of rs ≡ Passed → rs ≡ []
-unfolding lowest_of
-none-lowest [] h = refl
-none-lowest (r ∷ rs) h = absurd (fault-lower r (lowest_of rs) (subst Passes (sym h) tt))
 
 -- One of some rows, and the lowest of them.
 abbrev pub Given : ℕ → List ℕ → Type 0
 Given x rs = Among x rs × ((k : ℕ) → Among k rs → x ≤ k)
-
-pub lowest-given : (rs : List ℕ) (row : ℕ) → lowest_of rs ≡ Fault row → Given row rs
-unfolding lowest_of
-lowest-given [] row h = absurd (let z : ◌≡◌ {A = ℕ} 0 1 = cc h in omega arith)
-lowest-given (r ∷ rs) row h = go (lowest_of rs) refl h (lowest-given rs)
-  where
-    least : (x : ℕ) (b : Bool) → leb r x ≡ b → cond b r x ≡ row → Given x rs → Given row (r ∷ rs)
-    least x true p e g = (inl (sym e), each)
-      where
-        each : (k : ℕ) → (k ≡ r) ⊎ Among k rs → row ≤ k
-        each k (inl q) = omega arith
-        each k (inr q) = let i : r ≤ x = leb-true r x p in omega (arith, g.1 k q)
-    least x false p e g = (inr (subst (λ (z : ℕ). Among z rs) e g.0), each)
-      where
-        each : (k : ℕ) → (k ≡ r) ⊎ Among k rs → row ≤ k
-        each k (inl q) = let i : x < r = leb-false r x p in omega arith
-        each k (inr q) = omega (arith, g.1 k q)
-
-    go : (c : Check) → lowest_of rs ≡ c → lower r c ≡ Fault row → ((x : ℕ) → lowest_of rs ≡ Fault x → Given x rs) → Given row (r ∷ rs)
-    go Passed p e ih = (inl (cc e), each)
-      where
-        each : (k : ℕ) → (k ≡ r) ⊎ Among k rs → row ≤ k
-        each k (inl q) = let i : r ≡ row = cc e in omega arith
-        each k (inr q) = absurd (subst (Among k) (none-lowest rs p) q)
-    go (Fault x) p e ih = least x (leb r x) refl (cc e) (ih x p)

@@ -10,7 +10,6 @@ pub mod Places
 pub mod Kinds
 pub mod Faults
 pub mod Tests
-pub mod TestLaws
 pub mod Verdicts
 pub mod SheetLaws
 pub mod TreeLaws
@@ -21,4 +20,3 @@ pub mod PlaceLaws
 pub mod RowsMet
 pub mod CountLaws
 pub mod Acceptance
-pub mod KindWidths

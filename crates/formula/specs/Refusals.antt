@@ -1,6 +1,5 @@
 -- Document 01, "Said by what was handed in" and "Said by how the machine stands": the number of each refusal; 15 and 16 are document 02's, Job 3, 17 and 18 Job 6, 19, 37 and 38 Job 12, 20 and 21 Job 13, 22 and 23 Job 14.
 use Rattle.std.specs.Prelude.{ℕ, ◌≤◌}
-use Rattle.std.proofs.Common.{arith}
 use Rattle.formula.specs.declared.Refusal.{Refusal}
 use Rattle.formula.specs.declared.Refusal.TheVariants.{Layout, Rows, Malformed, Range, Naming, Named, StrayIter, Width, Unused, Operators, Memory, Set, SetFile, Capacity, LogLine, LogRefused, KindsLine, KindsBroken, Loop, Sort, Movement, Unlisted, LastListed, Altered, Untaken, Full, NotAble, NoResult, Unfinished, NoTag, NoTagResult}
 
@@ -36,37 +35,3 @@ number_of NoResult = 35
 number_of Unfinished = 36
 number_of NoTag = 37
 number_of NoTagResult = 38
-
--- 0 is no refusal's number: an answer of 0 is an acceptance.
-pub number-positive : (r : Refusal) → 1 ≤ number_of r
-number-positive Layout = omega arith
-number-positive Rows = omega arith
-number-positive Malformed = omega arith
-number-positive Range = omega arith
-number-positive Naming = omega arith
-number-positive Named = omega arith
-number-positive StrayIter = omega arith
-number-positive Width = omega arith
-number-positive Unused = omega arith
-number-positive Operators = omega arith
-number-positive Memory = omega arith
-number-positive Set = omega arith
-number-positive SetFile = omega arith
-number-positive Capacity = omega arith
-number-positive LogLine = omega arith
-number-positive LogRefused = omega arith
-number-positive KindsLine = omega arith
-number-positive KindsBroken = omega arith
-number-positive Loop = omega arith
-number-positive Sort = omega arith
-number-positive Movement = omega arith
-number-positive Unlisted = omega arith
-number-positive LastListed = omega arith
-number-positive Altered = omega arith
-number-positive Untaken = omega arith
-number-positive Full = omega arith
-number-positive NotAble = omega arith
-number-positive NoResult = omega arith
-number-positive Unfinished = omega arith
-number-positive NoTag = omega arith
-number-positive NoTagResult = omega arith

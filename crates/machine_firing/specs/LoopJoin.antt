@@ -8,7 +8,8 @@ use Rattle.value.specs.declared.Decoded.{Decoded}
 use Rattle.machine_layout.specs.Layout.{operator_at, kind_byte, port_of}
 use Rattle.machine_gates.specs.Decide.{Decided, idle, decide_at}
 use Rattle.machine_gates.specs.Rows.{Row, table, holding, first_row}
-use Rattle.machine_gates.specs.LoopJoin.{Among, decided-by-row, decided-by-that-row, at_most_one}
+use Rattle.machine_gates.specs.LoopJoin.{Among}
+use Rattle.machine_gates.proofs.LoopJoin.{decided-by-row, decided-by-that-row, at_most_one}
 use Rattle.machine_firing.specs.Links.{token_from}
 use Rattle.machine_firing.specs.Fire.{planned, register_of, decision_from, plan_from, ready_from, performed_from, able_from, fired_from}
 

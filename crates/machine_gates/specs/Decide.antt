@@ -58,7 +58,6 @@ unfoldable pub decide_at : ℕ → Decoded → Decoded → Decoded → Decoded �
 decide_at kind a b c g = told (ruled (kind_of kind) a b c g)
 
 -- ---- what the code asks of a token
-
 abbrev pub is_absent : Decoded → Bool
 is_absent (Valid v) = false
 is_absent Invalid = true
@@ -94,7 +93,3 @@ is_neither Invalid = false
 abbrev pub counts_false : Decoded → Bool
 counts_false (Valid v) = not (as-truth (sense v))
 counts_false Invalid = false
-
-pub read_back : (g : Decoded) → decoded (optional g) ≡ g
-read_back (Valid v) = refl
-read_back Invalid = refl

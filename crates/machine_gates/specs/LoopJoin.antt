@@ -1,7 +1,6 @@
 -- Each able firing of an IC gate falls under exactly one row of Brock's table (Rows.antt), one that is not able under none, and what is decided is
 -- that row's. Assumes nothing.
 use Rattle.std.specs.Prelude.{ℕ, ◌+◌, ◌≤◌, ◌≡◌, refl, ◌⊎◌, Bool, true, false, cond, not, ◌&&◌, List, [], ◌∷◌}
-use Rattle.std.proofs.Common.{◌∙◌, inl, inr, arith}
 use Rattle.value.specs.declared.Decoded.{Decoded}
 use Rattle.value.specs.declared.Decoded.TheVariants.{Valid, Invalid}
 use Rattle.value.specs.declared.Sense.{Sense}
@@ -10,20 +9,14 @@ use Rattle.value.specs.Senses.{sense}
 use Rattle.value.specs.Operators.{pick}
 use Rattle.network.specs.Values.{true-value, false-value, err-value}
 use Rattle.network.specs.Rules.{as-truth}
-use Rattle.machine_gates.specs.Decide.{Decided, does, idle, is_true, is_false, is_neither, counts_false, true_sense, false_sense, neither_sense, decide_at}
-use Rattle.machine_gates.specs.Rows.{Row, table, holding, first_row}
-use Rattle.machine_gates.specs.Gates.{ic_by}
-use Rattle.machine_gates.specs.Tables.{decide-IC}
-
-pub decided-by-row : (a b c g : Decoded) → decide_at 18 a b c g ≡ first_row table a b c g
-unfolding ic_by
-decided-by-row a b c g = decide-IC a b c g
+use Rattle.machine_gates.specs.Decide.{Decided, does, idle}
+use Rattle.machine_gates.specs.Rows.{Row}
 
 -- the same over what the five rows say, p to t in their order
-abbrev count : Bool → Bool → Bool → Bool → Bool → ℕ
+abbrev pub count : Bool → Bool → Bool → Bool → Bool → ℕ
 count p q r s t = cond p 1 0 + (cond q 1 0 + (cond r 1 0 + (cond s 1 0 + (cond t 1 0 + 0))))
 
-abbrev first : Decoded → Bool → Bool → Bool → Bool → Bool → Decided
+abbrev pub first : Decoded → Bool → Bool → Bool → Bool → Bool → Decided
 first g p q r s t =
     pick p (does true true false (Valid true-value) (Valid true-value) Invalid g)
     (pick q (does true true false (Valid false-value) Invalid (Valid true-value) g)
@@ -32,64 +25,8 @@ first g p q r s t =
     (pick t (does true false false (Valid false-value) Invalid (Valid err-value) g)
     idle))))
 
--- "each able firing falls under exactly one": one row holds where the tokens make the gate able, none where they do not
-pub exactly-one : (a b c g : Decoded) → holding table a b c ≡ cond (decide_at 18 a b c g).able 1 0
-exactly-one a b c g = rw (decided-by-row a b c g) (go a b c)
-  where
-    by-second : (s : Sense) →
-        count (true_sense s) (not (as-truth s)) false false false ≡ cond (first g (true_sense s) (not (as-truth s)) false false false).able 1 0
-    by-second True = refl
-    by-second False = refl
-    by-second Neither = refl
-
-    by-third : (s : Sense) →
-        count false false (true_sense s) (not (as-truth s)) false ≡ cond (first g false false (true_sense s) (not (as-truth s)) false).able 1 0
-    by-third True = refl
-    by-third False = refl
-    by-third Neither = refl
-
-    by-control : (s : Sense) (b c : Decoded) →
-        count (true_sense s && is_true b) (true_sense s && counts_false b) (false_sense s && is_true c) (false_sense s && counts_false c) (neither_sense s)
-        ≡ cond (first g (true_sense s && is_true b) (true_sense s && counts_false b) (false_sense s && is_true c) (false_sense s && counts_false c) (neither_sense s)).able 1 0
-    by-control True Invalid c = refl
-    by-control True (Valid y) c = by-second (sense y)
-    by-control False b Invalid = refl
-    by-control False b (Valid z) = by-third (sense z)
-    by-control Neither b c = refl
-
-    go : (a b c : Decoded) → holding table a b c ≡ cond (first_row table a b c g).able 1 0
-    go Invalid b c = refl
-    go (Valid x) b c = by-control (sense x) b c
-
 -- ---- what the one row does
-
 -- r stands in a list of rows
 abbrev pub Among : Row → List Row → Type 0
 Among r [] = ⊥
 Among r (x ∷ rs) = (x ≡ r) ⊎ Among r rs
-
-module _ (a b c g : Decoded) (r : Row) (e : r.holds a b c ≡ true) where
-  some_holds : (rs : List Row) → Among r rs → 1 ≤ holding rs a b c
-  some_holds (x ∷ rs) (inl p) = let o : ◌≡◌ {A = ℕ} (cond (x.holds a b c) 1 0) 1 = (rw (p, e) refl) in omega arith
-  some_holds (x ∷ rs) (inr m) = let h = some_holds rs m in omega arith
-  some_holds [] x' = elim x' [ ]
-
-  that-row : (rs : List Row) → Among r rs → holding rs a b c ≤ 1 → first_row rs a b c g ≡ r.acts g
-  that-row (x ∷ rs) (inl p) h = rw (p, e) refl
-  that-row (x ∷ rs) (inr m) h = go (x.holds a b c) refl (λ k. that-row rs m k)
-    where
-      go : (t : Bool) → x.holds a b c ≡ t → (holding rs a b c ≤ 1 → first_row rs a b c g ≡ r.acts g) → first_row (x ∷ rs) a b c g ≡ r.acts g
-      go true q ih = absurd (let o : ◌≡◌ {A = ℕ} (cond (x.holds a b c) 1 0) 1 = (rw q refl) in omega (arith, h, some_holds rs m))
-      go false q ih = let o : ◌≡◌ {A = ℕ} (cond (x.holds a b c) 1 0) 0 = (rw q refl) in rw q (ih (omega (arith, h)))
-  that-row [] x'' h = elim x'' [ ]
-
-pub at_most_one : (a b c g : Decoded) → holding table a b c ≤ 1
-at_most_one a b c g = go (decide_at 18 a b c g).able (exactly-one a b c g)
-  where
-    go : (t : Bool) → holding table a b c ≡ cond t 1 0 → holding table a b c ≤ 1
-    go true e = omega (arith, e)
-    go false e = omega (arith, e)
-
--- whichever row holds, what is decided is its own
-pub decided-by-that-row : (a b c g : Decoded) (r : Row) → Among r table → r.holds a b c ≡ true → decide_at 18 a b c g ≡ r.acts g
-decided-by-that-row a b c g r m e = decided-by-row a b c g ∙ that-row a b c g r e table m (at_most_one a b c g)

@@ -22,7 +22,8 @@ use Rattle.formula.specs.Widths.{width}
 use Rattle.formula.specs.Free.{inputs_of}
 use Rattle.formula.specs.Faults.{letters_of}
 use Rattle.formula.specs.Tests.{whole, after_check, verdict_of, figures_of, reading_of}
-use Rattle.formula.specs.Acceptance.{Modest, low-row, reading-passed, accepted-passed, accepted-figures, passed-kinded}
+use Rattle.formula.specs.Acceptance.{Modest}
+use Rattle.formula.proofs.Acceptance.{low-row, reading-passed, accepted-passed, accepted-figures, passed-kinded}
 use Rattle.sheet_read.proofs.FigureLaws.{answer-modest}
 use Rattle.machine_layout.specs.Layout.{size_of, need, capacity_in}
 use Rattle.machine_start.specs.Start.{started}

@@ -6,7 +6,7 @@ use mathlib.Core.List.{List, [], ◌∷◌, ◌++◌, flatten, append-nil, appen
 use Rattle.std.proofs.Math.Decide.{dec_lt}
 use Rattle.value.specs.Operators.{pick}
 use Rattle.formula.specs.declared.Check.TheVariants.{Passed}
-use Rattle.formula.specs.TreeLaws.{and-true}
+use Rattle.formula.proofs.TreeLaws.{and-true}
 use Rattle.machine_layout.specs.Layout.{untaken_of}
 use Rattle.machine_calls.specs.Calls.{result_bytes}
 use Rattle.machine_log.specs.declared.lines.Line.{Line}

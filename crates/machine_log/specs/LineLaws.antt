@@ -11,7 +11,7 @@ use Rattle.std.proofs.Math.ListN.{length, length-drop}
 use Rattle.std.proofs.Math.Seq.{slice}
 use Rattle.formula.specs.declared.Check.TheVariants.{Passed, Fault}
 use Rattle.formula.specs.Sheet.{field_of, field_text}
-use Rattle.formula.specs.TestLaws.{passed-each, lowest-fault}
+use Rattle.formula.proofs.TestLaws.{passed-each, lowest-fault}
 use Rattle.machine_log.specs.declared.lines.Line.TheVariants.{Malformed}
 use Rattle.machine_log.specs.Lines.{line_bytes, most_lines, by_fields, line_of, line_at, lines_in, line_count, lines_of, listed, line_well, log_check}
 

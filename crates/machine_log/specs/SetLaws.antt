@@ -5,8 +5,9 @@ use Rattle.std.proofs.Common.{sym, ◌∙◌, mul-zero, mul-suc, zero-mul, lengt
 use Rattle.std.proofs.Math.Path.{ap}
 use mathlib.Core.List.{List, [], ◌∷◌}
 use native.Mathlib.Omega.{arith}
-use Rattle.value_sets.specs.Sets.{values_from, set_values, set_ok, set-short, set-length}
-use Rattle.formula.specs.TreeLaws.{and-true}
+use Rattle.value_sets.specs.Sets.{values_from, set_values, set_ok}
+use Rattle.value_sets.proofs.Sets.{set-short, set-length}
+use Rattle.formula.proofs.TreeLaws.{and-true}
 use Rattle.machine_tray.specs.Tray.{cut}
 use Rattle.machine_log.specs.Checked.{set_list, set_in, all_sets}
 

@@ -1,4 +1,3 @@
 pub mod Planes
 pub mod PlaneBytes
-pub mod PlaneFirings
 pub mod PlaneOthers

@@ -2,7 +2,6 @@
 -- stand once; a link of a plane is a stretch with one place, a queue of capacity 1. A tag's plane with what stands once is a machine's memory at capacity 1
 -- (`plane_of`): what a firing does under a tag is what the machine's own does there (PlaneFirings.antt). Assumes nothing.
 use Rattle.std.specs.Prelude.{ℕ, ◌+◌, ◌*◌, ◌≤◌, List, ◌++◌, get_or, take, set}
-use Rattle.std.proofs.Common.{arith}
 use Rattle.machine_layout.specs.Layout.{capacity_at, untaken_at, most_links, links_at, least_size, part}
 
 abbrev pub most_tags : ℕ
@@ -24,10 +23,6 @@ untaken_under m t = get_or m (tags_at + t) 0
 -- 319,856 bytes
 abbrev pub tagged_need : ℕ
 tagged_need = tags_at + most_tags
-
--- "the memory needed is at most what a machine may need at capacity 16": "at most 65,536 bytes at capacities 1 and 2 and 32,768 more for each place above 2"
-pub tagged-fits : tagged_need ≤ 65536 + 32768 * 14
-tagged-fits = omega arith
 
 -- The machine of a tag: capacity 1, the tag's byte for the sets untaken, and the links of its plane.
 unfoldable pub plane_of : List ℕ → ℕ → List ℕ

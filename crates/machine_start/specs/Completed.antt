@@ -13,8 +13,8 @@ use Rattle.formula.specs.Admitted.{AdmittedE}
 use Rattle.machine_layout.specs.Layout.{no_link, size_of}
 use Rattle.graph.specs.Assembly.{up_from}
 use Rattle.graph.specs.Translation.{Made, made_of, port_of}
-use Rattle.theory_yields.specs.BodyWidths.{not-too-wide}
-use Rattle.theory_wiring.specs.MadeGraph.{trigger-link, result_count}
+use Rattle.theory_yields.proofs.BodyWidths.{not-too-wide}
+use Rattle.theory_wiring.proofs.MadeGraph.{trigger-link, result_count}
 use Rattle.maker.specs.Making.{padded, tell_of, making_of, making_in}
 use Rattle.maker.specs.declared.Making.{Making}
 use Rattle.machine_start.specs.declared.StartAnswer.{StartAnswer}

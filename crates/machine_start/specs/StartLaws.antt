@@ -9,11 +9,12 @@ use Rattle.formula.specs.declared.Refusal.{Refusal}
 use Rattle.formula.specs.declared.Refusal.TheVariants.{Memory, Capacity}
 use Rattle.formula.specs.declared.Verdict.{Verdict}
 use Rattle.formula.specs.declared.Verdict.TheVariants.{Passed, Refused}
-use Rattle.formula.specs.Refusals.{number-positive}
+use Rattle.formula.proofs.Refusals.{number-positive}
 use Rattle.formula.specs.Tree.{Exp, formula_of}
 use Rattle.formula.specs.Tests.{verdict_of}
 use Rattle.formula.specs.Faults.{letters_of}
-use Rattle.formula.specs.Acceptance.{Admissible, Kinded, passed-admissible, passed-kinded}
+use Rattle.formula.specs.Acceptance.{Admissible, Kinded}
+use Rattle.formula.proofs.Acceptance.{passed-admissible, passed-kinded}
 use Rattle.machine_layout.specs.Layout.{input_kinds_at, stored16, size_of, link_from, need, capacity_in}
 use Rattle.graph.specs.Translation.{made_of}
 use Rattle.machine_start.specs.Start.{Begun, begun, refusal, accepted, figure_bytes, figured, named, lettered, cleared_from, started_memory, by_verdict, started}

@@ -17,9 +17,9 @@ use Rattle.machine_firing.specs.Fire.{register_of, able_at}
 use Rattle.machine_valid.specs.Below.{all_below, below_at, and_right}
 use Rattle.machine_valid.specs.Valid.{named_ok, register_ok, kind_ok, operator_ok}
 use Rattle.machine_planes.specs.Planes.{most_tags, plane_at, tagged_need, plane_of}
-use Rattle.machine_planes.specs.PlaneBytes.{plane-word, plane-kind}
-use Rattle.machine_planes.specs.PlaneFirings.{plane-able}
-use Rattle.machine_planes.specs.PlaneOthers.{beside-fired, register-stays, fired-length}
+use Rattle.machine_planes.proofs.PlaneBytes.{plane-word, plane-kind}
+use Rattle.machine_planes.proofs.PlaneFirings.{plane-able}
+use Rattle.machine_planes.proofs.PlaneOthers.{beside-fired, register-stays, fired-length}
 use Rattle.machine_tags.specs.TagRun.{able_under, fired_under}
 use Rattle.machine_tags.specs.TagValid.{plain_kind}
 

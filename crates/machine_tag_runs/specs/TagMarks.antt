@@ -7,7 +7,7 @@ use Rattle.machine_layout.specs.Layout.{least_size, part, put}
 use Rattle.machine_firing.specs.Parts.{length-put, part-put-same, part-put-below, part-put-above}
 use Rattle.machine_marks.specs.Users.{Filled}
 use Rattle.machine_planes.specs.Planes.{most_tags, plane_at, tagged_need}
-use Rattle.machine_planes.specs.PlaneOthers.{fired-length}
+use Rattle.machine_planes.proofs.PlaneOthers.{fired-length}
 use Rattle.machine_runs.specs.Run.{ran}
 use Rattle.machine_runs.specs.RunLaws.{fired-idle}
 use Rattle.machine_runs.specs.Marks.{Resting, filled-fired}

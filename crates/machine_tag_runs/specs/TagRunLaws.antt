@@ -6,7 +6,7 @@ use Rattle.std.proofs.Math.Decide.{ℕ_discrete}
 use Rattle.value.specs.Operators.{pick}
 use Rattle.machine_planes.specs.Planes.{most_tags}
 use Rattle.machine_runs.specs.Run.{ran}
-use Rattle.machine_tags.specs.Least.{least_at, least-none}
+use Rattle.machine_tags.proofs.Least.{least_at, least-none}
 use Rattle.machine_tags.specs.TagRun.{able_under, fired_under, lowest_tag, able_tagged, least_operator, tag_runs, tag_still}
 
 -- no pair below v is able

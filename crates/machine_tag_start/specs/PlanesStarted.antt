@@ -12,8 +12,8 @@ use Rattle.formula.specs.Faults.{letters_of}
 use Rattle.machine_layout.specs.Layout.{capacity_at, untaken_at, most_inputs, most_results, most_operators, most_links, links_at, least_size, link_from, need, part}
 use Rattle.graph.specs.Translation.{Made, made_of}
 use Rattle.maker_laid.specs.Encode.{encode, encoded, written, length-written}
-use Rattle.theory_verdicts.specs.Admitting.{accepted-admitted}
-use Rattle.theory_verdicts.specs.Verdicts.{accepted-graph}
+use Rattle.theory_verdicts.proofs.Admitting.{accepted-admitted}
+use Rattle.theory_verdicts.proofs.Verdicts.{accepted-graph}
 use Rattle.machine_start.specs.Start.{Begun, headed, emptied, started_memory, started}
 use Rattle.machine_start.specs.StartLaws.{start-accepts, accepted-start}
 use Rattle.machine_start.specs.ReadBack.{length-emptied, emptied-kept, emptied-read}
@@ -21,7 +21,8 @@ use Rattle.machine_start.specs.HeaderLaws.{length-headed, headed-capacity, heade
 use Rattle.machine_start.specs.Completed.{made-inputs, made-results}
 use Rattle.machine_start.specs.Letters.{letters-count}
 use Rattle.machine_planes.specs.Planes.{most_tags, plane_bytes, plane_at, untaken_under, tagged_need, plane_of}
-use Rattle.machine_planes.specs.PlaneBytes.{headed as topped, headed-length, plane-split, plane-length, plane-byte, plane-capacity, plane-untaken}
+use Rattle.machine_planes.specs.PlaneBytes.{headed as topped}
+use Rattle.machine_planes.proofs.PlaneBytes.{headed-length, plane-split, plane-length, plane-byte, plane-capacity, plane-untaken}
 use Rattle.machine_tags.specs.TagValid.{tag_mark}
 use Rattle.machine_tag_start.specs.TagStart.{emptied_tags, tag_started_memory, tag_started}
 use Rattle.machine_tag_start.specs.TagStartLaws.{AcceptedTagStart}

@@ -8,7 +8,7 @@ use Rattle.formula.specs.Faults.{letters_of}
 use Rattle.machine_layout.specs.Layout.{capacity_at, untaken_at, capacity_byte, untaken_of, least_size}
 use Rattle.graph.specs.Translation.{made_of}
 use Rattle.maker_laid.specs.Encode.{encoded, written, length-written}
-use Rattle.theory_verdicts.specs.Verdicts.{accepted-graph}
+use Rattle.theory_verdicts.proofs.Verdicts.{accepted-graph}
 use Rattle.machine_start.specs.Start.{Begun, headed, started_memory, started}
 use Rattle.machine_start.specs.StartLaws.{accepted-start, start-accepts}
 use Rattle.machine_start.specs.ReadBack.{length-emptied}

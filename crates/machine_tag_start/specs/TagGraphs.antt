@@ -8,13 +8,14 @@ use Rattle.formula.specs.declared.Check.TheVariants.{Passed, Fault}
 use Rattle.formula.specs.Sheet.{row_count, fields_of, field}
 use Rattle.formula.specs.Tree.{formula_of}
 use Rattle.formula.specs.Tests.{lowest, is-passed}
-use Rattle.formula.specs.TestLaws.{passed-each}
+use Rattle.formula.proofs.TestLaws.{passed-each}
 use Rattle.meaning.specs.Loopless.{Loopless}
 use Rattle.graph.specs.Translation.{made_of}
 use Rattle.theory_reference.specs.Plugged.{Each}
-use Rattle.theory_verdicts.specs.Admitting.{accepted-admitted}
-use Rattle.theory_tags.specs.LooplessRows.{rows-loopless}
-use Rattle.theory_tags.specs.PlainGraphs.{Plain, plain-graph}
+use Rattle.theory_verdicts.proofs.Admitting.{accepted-admitted}
+use Rattle.theory_tags.proofs.LooplessRows.{rows-loopless}
+use Rattle.theory_tags.specs.PlainGraphs.{Plain}
+use Rattle.theory_tags.proofs.PlainGraphs.{plain-graph}
 use Rattle.machine_tag_start.specs.TagStart.{for_kind, not_for, has_for}
 use Rattle.machine_tag_start.specs.TagStartLaws.{AcceptedTagStart}
 

@@ -8,17 +8,19 @@ use Rattle.formula.specs.declared.Refusal.{Refusal}
 use Rattle.formula.specs.declared.Refusal.TheVariants.{Memory, Loop}
 use Rattle.formula.specs.declared.Verdict.{Verdict}
 use Rattle.formula.specs.declared.Verdict.TheVariants.{Passed, Refused}
-use Rattle.formula.specs.Refusals.{number-positive}
+use Rattle.formula.proofs.Refusals.{number-positive}
 use Rattle.formula.specs.Sheet.{row_count, lines_of, field_of, number_in, fields_of, field}
-use Rattle.formula.specs.SheetLaws.{line_fields, text_at, fields-length, fields-more, line-fields-at}
+use Rattle.formula.specs.SheetLaws.{line_fields, text_at}
+use Rattle.formula.proofs.SheetLaws.{fields-length, fields-more, line-fields-at}
 use Rattle.formula.specs.Tree.{formula_of}
 use Rattle.formula.specs.Tests.{line_at, verdict_of}
 use Rattle.formula.specs.Faults.{letters_of}
-use Rattle.formula.specs.Acceptance.{Admissible, Kinded, passed-admissible, passed-kinded}
+use Rattle.formula.specs.Acceptance.{Admissible, Kinded}
+use Rattle.formula.proofs.Acceptance.{passed-admissible, passed-kinded}
 use Rattle.machine_layout.specs.Layout.{capacity_at, most_links, least_size, links_of, size_of}
 use Rattle.graph.specs.Translation.{made_of}
 use Rattle.maker_laid.specs.Encode.{encoded, written, length-written}
-use Rattle.theory_verdicts.specs.Verdicts.{accepted-graph}
+use Rattle.theory_verdicts.proofs.Verdicts.{accepted-graph}
 use Rattle.machine_start.specs.Start.{Begun, begun, refusal, accepted, headed, cleared_from, emptied, started_memory, by_verdict, started}
 use Rattle.machine_start.specs.StartLaws.{AcceptedStart, accepted-start, capacity-in, started-read, verdict-refused, verdict-passed}
 use Rattle.machine_start.specs.ReadBack.{number-kept, emptied-kept}

@@ -2,10 +2,6 @@ pub mod Least
 pub mod TagRun
 pub mod TagValid
 pub mod TagCalls
-pub mod TagLaws
 pub mod PlaneStanding
-pub mod PlanePush
-pub mod PlaneFire
-pub mod PlaneTake
 pub mod RunSteps
 pub mod Changes

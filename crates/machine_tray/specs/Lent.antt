@@ -5,7 +5,8 @@ use Rattle.std.proofs.Common.{sym, ap, ◌∙◌, arith, ne_eqb, take_at, drop_a
 use mathlib.Core.List.{List, [], ◌∷◌, ◌++◌, flatten, foldl, foldl-append, append-nil, append_assoc}
 use Rattle.std.proofs.Math.Decide.{ℕ_discrete}
 use Rattle.value.specs.Bytes.{word_of}
-use Rattle.value_sets.specs.Sets.{set_ok, set-short}
+use Rattle.value_sets.specs.Sets.{set_ok}
+use Rattle.value_sets.proofs.Sets.{set-short}
 use Rattle.formula.specs.declared.Refusal.TheVariants.{Set}
 use Rattle.formula.specs.Refusals.{number_of}
 use Rattle.machine_layout.specs.Layout.{links_at, need, inputs_of, untaken_of, trigger_of, untaken_at, input_count_at, stored_kinds}

@@ -16,10 +16,10 @@ use Rattle.formula.specs.Sheet.{shape_at}
 use Rattle.formula.specs.Tree.{Exp, exp_of}
 use Rattle.formula.specs.Widths.{width}
 use Rattle.formula.specs.Free.{free_e, inputs_of}
-use Rattle.theory_yields.specs.BodyWidths.{not-too-wide}
+use Rattle.theory_yields.proofs.BodyWidths.{not-too-wide}
 use Rattle.graph.specs.Assembly.{up_from, operators_of}
 use Rattle.graph.specs.Translation.{graph_e, port_of, made_of}
-use Rattle.theory_wiring.specs.MadeGraph.{trigger-link}
+use Rattle.theory_wiring.proofs.MadeGraph.{trigger-link}
 use Rattle.maker_laid.specs.Environments.{Agrees}
 use Rattle.maker_laid.specs.Masked.{list_of, Mask, list-is, list_length, names_in}
 use Rattle.maker_laid.specs.Counts.{operator_count, operators-length}

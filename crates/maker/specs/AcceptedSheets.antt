@@ -10,15 +10,15 @@ use Rattle.formula.specs.declared.Shape.TheVariants.{Identifier, Constant, Pair,
 use Rattle.formula.specs.Sheet.{row_count, fields_of, shape_at}
 use Rattle.formula.specs.Tree.{exp_of, body_of, formula_of}
 use Rattle.formula.specs.Places.{node_in, is_in_body, places_of}
-use Rattle.formula.specs.PlaceLaws.{last-place}
+use Rattle.formula.proofs.PlaceLaws.{last-place}
 use Rattle.formula.specs.Widths.{returned}
 use Rattle.formula.specs.Acceptance.{Admissible}
 use Rattle.meaning.specs.Rows.{Placed, width_in, Accepted}
-use Rattle.meaning.specs.Accepted.{accepted}
+use Rattle.meaning.proofs.Accepted.{accepted}
 use Rattle.sheet_tables.specs.Nodes.{returned_in, free_in as freeOf}
 use Rattle.sheet_read.specs.Reading.{Tables, Accepts}
-use Rattle.theory_verdicts.specs.Admitting.{accepted-admitted}
-use Rattle.theory_verdicts.specs.Verdicts.{accepted-graph}
+use Rattle.theory_verdicts.proofs.Admitting.{accepted-admitted}
+use Rattle.theory_verdicts.proofs.Verdicts.{accepted-graph}
 use Rattle.maker_laid.specs.Nodes.{Kids, Read, free_in}
 use Rattle.maker.specs.Making.{Makeable}
 

@@ -8,8 +8,10 @@ use Rattle.std.proofs.Math.Bool.{true, false, not}
 use Rattle.std.proofs.lemmas.Bool.{false≢true, eqb-false}
 use native.Mathlib.Omega.{arith}
 use Rattle.names.specs.Names.{Names, one, union, common, without, members}
-use Rattle.theory_yields.specs.Naming.{Small, or_left, or_right, or-false, or-true, or-neither, member-members, different-members}
-use Rattle.theory_yields.specs.Choice.{choice, choice-free, From, Has, Joining, arm-free, row_has, row-lacks, gone, kept, unseen}
+use Rattle.theory_yields.specs.Naming.{Small}
+use Rattle.theory_yields.proofs.Naming.{or_left, or_right, or-false, or-true, or-neither, member-members, different-members}
+use Rattle.theory_yields.specs.Choice.{choice, From, Has}
+use Rattle.theory_yields.proofs.Choice.{choice-free, Joining, arm-free, row_has, row-lacks, gone, kept, unseen}
 use Rattle.graph.specs.Assembly.{Graph, wire, nothing, beside, bind, gate, loop, Gate, T, F, Env, free, member_of, first_use, second_use, named}
 use Rattle.graph.specs.Translation.{test_name, row, gated, arm}
 use Rattle.maker_laid.specs.Laid.{Laid, Copied, laid-bind}

@@ -10,7 +10,7 @@ use Rattle.names.specs.Names.{Names, common, without, size_from}
 use Rattle.names.proofs.Counts.{size_from-none}
 use Rattle.graph.specs.Assembly.{Graph, wire, nothing, beside, bind, gate, loop, Gate, IC, Env, Operator, free, member_of, total, listed, links_of, shared_links, outputs, operators_of, gate_of, sharing, first_use, second_use, named, spread, chain, chain_ends, ring, up_from, gate_outputs}
 use Rattle.graph.specs.Yields.{output_count}
-use Rattle.theory_yields.specs.Naming.{length-up_from}
+use Rattle.theory_yields.proofs.Naming.{length-up_from}
 use Rattle.graph.specs.Translation.{iterated_name, returned_name, join_names, merge_row, except_row, straight, copied}
 use Rattle.theory_yields.specs.Joins.{join_i, join_r}
 use Rattle.maker_laid.specs.Laid.{Laid, chain_length, ring-length, ends-length, listed-length}

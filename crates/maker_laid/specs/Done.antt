@@ -10,8 +10,10 @@ use Rattle.names.proofs.Sets.{mask-cong}
 use Rattle.graph.specs.Assembly.{Graph, wire, nothing, beside, bind, gate, loop, Gate, Env, free, member_of, total, links_of, gate_outputs, gate_of, up_from, first_use, second_use, named, copies_for, listed}
 use Rattle.graph.specs.Yields.{output_count}
 use Rattle.graph.specs.Fit.{Different}
-use Rattle.theory_yields.specs.Naming.{Small, different-up_from, up_from-holds, length-up_from}
-use Rattle.theory_yields.specs.Choice.{Has, unseen}
+use Rattle.theory_yields.specs.Naming.{Small}
+use Rattle.theory_yields.proofs.Naming.{different-up_from, up_from-holds, length-up_from}
+use Rattle.theory_yields.specs.Choice.{Has}
+use Rattle.theory_yields.proofs.Choice.{unseen}
 use Rattle.maker_laid.specs.Encode.{encode, encoded, written}
 use Rattle.maker_laid.specs.Emitted.{link_in, dealt, assigned}
 use Rattle.maker_laid.specs.Masked.{list_of, Mask, list-is}

@@ -8,8 +8,9 @@ use Rattle.std.proofs.lemmas.Bool.{false≢true}
 use Rattle.names.specs.Names.{Names, common, without, range, mask, members, size, size_from}
 use Rattle.names.proofs.Counts.{size_from-cong}
 use Rattle.names.proofs.Sets.{mask-has, mask-range, known-has}
-use Rattle.theory_yields.specs.Naming.{Small, or_left, or_right, member-members, member-up_from, length-up_from}
-use Rattle.theory_yields.specs.FitGraphs.{count-loop}
+use Rattle.theory_yields.specs.Naming.{Small}
+use Rattle.theory_yields.proofs.Naming.{or_left, or_right, member-members, member-up_from, length-up_from}
+use Rattle.theory_yields.proofs.FitGraphs.{count-loop}
 use Rattle.graph.specs.Yields.{output_count}
 use Rattle.graph.specs.Assembly.{Graph, loop, Env, Operator, free, member_of, total, listed, rank, first_use, second_use, named, spread, up_from, chain, chain_ends, chain_links, ring, ring_gate}
 use Rattle.maker_laid.specs.Encode.{encoded, written}

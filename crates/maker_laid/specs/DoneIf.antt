@@ -9,7 +9,8 @@ use Rattle.std.proofs.Math.ListN.{length, get_or, take}
 use Rattle.machine_layout.specs.Layout.{no_link}
 use Rattle.machine_layout.specs.Record.{placed}
 use Rattle.names.specs.Names.{Names, one, common, without, mask, members}
-use Rattle.theory_yields.specs.Naming.{Small, Apart, or_left, or_right, member-members, different-members}
+use Rattle.theory_yields.specs.Naming.{Small, Apart}
+use Rattle.theory_yields.proofs.Naming.{or_left, or_right, member-members, different-members}
 use Rattle.theory_yields.specs.Choice.{choice, Has, From}
 use Rattle.graph.specs.Fit.{Different}
 use Rattle.graph.specs.Yields.{output_count}

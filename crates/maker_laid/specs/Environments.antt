@@ -12,7 +12,8 @@ use Rattle.std.proofs.Math.Seq.{get_or-set_other}
 use native.Mathlib.Omega.{arith}
 use Rattle.names.specs.Names.{Names, common, mask, members, size_from, members_from, later, put, bit}
 use Rattle.names.proofs.Walk.{members_from-none}
-use Rattle.theory_yields.specs.Naming.{Small, or-neither, or_left, or_right}
+use Rattle.theory_yields.specs.Naming.{Small}
+use Rattle.theory_yields.proofs.Naming.{or-neither, or_left, or_right}
 use Rattle.graph.specs.Fit.{Different}
 use Rattle.graph.specs.Assembly.{Env, member_of, name_count, rank, listed, first_use, second_use, named, spread}
 use Rattle.maker_laid.specs.Emitted.{link_in, dealt, dealt-none, dealt-more, assigned}

@@ -11,8 +11,8 @@ use borrow.Author.Tests.{eqb-true, eqb-false, eq-eqb, ne_eqb}
 use Rattle.machine_layout.specs.Layout.{no_link}
 use Rattle.machine_layout.specs.Record.{placed}
 use Rattle.names.specs.Names.{Names, one}
-use Rattle.theory_yields.specs.Naming.{or_left, or_right, or-false, or-neither, or-true, up_from-holds, length-up_from}
-use Rattle.theory_yields.specs.Choice.{row-lacks, row_has}
+use Rattle.theory_yields.proofs.Naming.{or_left, or_right, or-false, or-neither, or-true, up_from-holds, length-up_from}
+use Rattle.theory_yields.proofs.Choice.{row-lacks, row_has}
 use Rattle.graph.specs.Fit.{Different}
 use Rattle.graph.specs.Assembly.{Graph, wire, nothing, beside, bind, gate, loop, Gate, T, F, M, E, Env, free, member_of, gate_outputs, gate_of, nth, up_from, first_use, second_use, named, chain, chain_ends}
 use Rattle.graph.specs.Translation.{test_name, row, gated, merged, excepted, merge_row, except_row, straight, copied}

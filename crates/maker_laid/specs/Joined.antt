@@ -14,10 +14,11 @@ use native.Mathlib.Omega.{arith}
 use Rattle.machine_layout.specs.Layout.{no_link}
 use Rattle.machine_layout.specs.Record.{placed}
 use Rattle.machine_layout.specs.declared.Operator.{Operator as Record}
-use Rattle.theory_yields.specs.ArmNames.{join-from}
+use Rattle.theory_yields.proofs.ArmNames.{join-from}
 use Rattle.maker_laid.specs.Environments.{named_other}
-use Rattle.theory_yields.specs.Naming.{or-false, below-up_from, above-up_from, up_from-holds, or_left, or_right}
-use Rattle.theory_yields.specs.Joins.{join_i, join_r, merge-lacks, except-lacks, straight-lacks, copied-lacks}
+use Rattle.theory_yields.proofs.Naming.{or-false, below-up_from, above-up_from, up_from-holds, or_left, or_right}
+use Rattle.theory_yields.specs.Joins.{join_i, join_r}
+use Rattle.theory_yields.proofs.Joins.{merge-lacks, except-lacks, straight-lacks, copied-lacks}
 use Rattle.graph.specs.Assembly.{Graph, wire, nothing, beside, bind, gate, loop, Gate, M, E, IC, Env, free, member_of, gate_outputs, gate_of, nth, up_from, named, chain, chain_ends}
 use Rattle.graph.specs.Translation.{test_name, iter_name, iterated_name, returned_name, join_name, join_names, joined, iterated_join, returned_join}
 use Rattle.formula.specs.Tree.{Body}

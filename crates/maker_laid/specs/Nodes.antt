@@ -12,17 +12,20 @@ use Rattle.formula.specs.declared.Shape.TheVariants.{Identifier, Constant, Pair,
 use Rattle.formula.specs.Constants.{constant_most}
 use Rattle.formula.specs.Sheet.{shape_at, named_in}
 use Rattle.formula.specs.Tree.{Exp, identifier, constant, pair, operator, let_e, if_e, for_e, Body, ret, iter, let_b, if_b, exp_of, body_of, exp_node, body_node}
-use Rattle.formula.specs.TreeLaws.{Named, AllBetween, exp-as, body-as, between-as}
+use Rattle.formula.specs.TreeLaws.{Named, AllBetween}
+use Rattle.formula.proofs.TreeLaws.{exp-as, body-as, between-as}
 use Rattle.formula.specs.Widths.{width, returned, iterated}
 use Rattle.formula.specs.Free.{free_e, free_b}
 use Rattle.formula.specs.Admitted.{AdmittedE, AdmittedB}
 use Rattle.graph.specs.Assembly.{Graph, wire, nothing, beside, bind, gate, loop, oper, up_from, free}
 use Rattle.graph.specs.Translation.{graph_e, graph_b, constant_of, test_name, returned_name, arm_names, merge_row, joined}
-use Rattle.meaning.specs.WidthLaws.{let-fits, let-fits-B}
-use Rattle.theory_yields.specs.Naming.{Small, or_left, or_right}
+use Rattle.meaning.proofs.WidthLaws.{let-fits, let-fits-B}
+use Rattle.theory_yields.specs.Naming.{Small}
+use Rattle.theory_yields.proofs.Naming.{or_left, or_right}
 use Rattle.theory_yields.specs.Choice.{Has, choice}
-use Rattle.theory_yields.specs.FreeNames.{free-E, free-B, small-E, small-B, body-triggered}
-use Rattle.theory_yields.specs.FitGraphs.{Returning, arms-returning, let-returning, loop-returning}
+use Rattle.theory_yields.proofs.FreeNames.{free-E, free-B, small-E, small-B, body-triggered}
+use Rattle.theory_yields.specs.FitGraphs.{Returning}
+use Rattle.theory_yields.proofs.FitGraphs.{arms-returning, let-returning, loop-returning}
 
 -- ---- a row by its place
 

@@ -12,7 +12,7 @@ use borrow.Author.Tests.{eqb-true, eqb-false, eq-eqb, ne_eqb, lt-ltb}
 use native.Mathlib.Omega.{arith}
 use Rattle.machine_layout.specs.Layout.{no_link}
 use Rattle.names.specs.Names.{Names, one}
-use Rattle.theory_yields.specs.Naming.{or-false, or-true, length-up_from}
+use Rattle.theory_yields.proofs.Naming.{or-false, or-true, length-up_from}
 use Rattle.theory_yields.specs.Joins.{join_i, join_r}
 use Rattle.graph.specs.Assembly.{Graph, wire, nothing, beside, gate, Gate, M, E, Env, up_from, chain, chain_ends}
 use Rattle.graph.specs.Translation.{iter_name, iterated_name, returned_name, join_name, row, merged, excepted, merge_row, except_row, straight, copied}

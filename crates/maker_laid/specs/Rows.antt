@@ -14,8 +14,8 @@ use Rattle.machine_layout.specs.Layout.{no_link}
 use Rattle.machine_layout.specs.Record.{placed}
 use Rattle.machine_layout.specs.declared.Operator.{Operator as Record}
 use Rattle.names.specs.Names.{Names, one}
-use Rattle.theory_yields.specs.Naming.{or_left, or_right, or-false}
-use Rattle.theory_yields.specs.Choice.{row-lacks, row_has, unseen}
+use Rattle.theory_yields.proofs.Naming.{or_left, or_right, or-false}
+use Rattle.theory_yields.proofs.Choice.{row-lacks, row_has, unseen}
 use Rattle.graph.specs.Assembly.{Graph, wire, nothing, beside, bind, gate, loop, Gate, T, F, M, E, Env, Operator, free, member_of, gate_outputs, gate_of, nth, up_from, first_use, second_use, chain, chain_ends}
 use Rattle.graph.specs.Translation.{row}
 use Rattle.maker_laid.specs.Encode.{encode, encoded, written, written_none, written_one, written-more}

@@ -17,7 +17,8 @@ use Rattle.names.specs.Names.{Names, one, union, common, mask, size, members, si
 use Rattle.names.proofs.Counts.{size_from-cong, members_from-cong, length-members_from, size_from-none}
 use Rattle.names.proofs.Walk.{members_from-none}
 use Rattle.names.proofs.Sets.{members-cong, length-members}
-use Rattle.theory_yields.specs.Naming.{Small, or-neither, or-true, or_left, or_right, or-false}
+use Rattle.theory_yields.specs.Naming.{Small}
+use Rattle.theory_yields.proofs.Naming.{or-neither, or-true, or_left, or_right, or-false}
 use Rattle.graph.specs.Assembly.{Env, Operator, member_of, rank, total, listed, shared_links, first_use, second_use, sharing, copies_for, copy_of, nth}
 use Rattle.graph.specs.Translation.{test_name}
 use Rattle.maker_laid.specs.Encode.{encode, encoded, written, written_one}

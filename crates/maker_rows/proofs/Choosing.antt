@@ -14,20 +14,22 @@ use Rattle.names.proofs.Sets.{mask-cong, known-union, known-common}
 use Rattle.formula.specs.declared.Shape.TheVariants.{If}
 use Rattle.formula.specs.Sheet.{shape_at}
 use Rattle.formula.specs.Tree.{if_b, exp_of, body_of, body_node}
-use Rattle.formula.specs.TreeLaws.{body-as}
+use Rattle.formula.proofs.TreeLaws.{body-as}
 use Rattle.formula.specs.Widths.{width, iterated}
 use Rattle.formula.specs.Count.{iterates}
 use Rattle.formula.specs.Free.{free_e}
-use Rattle.theory_yields.specs.Naming.{Small, Apart, different-up_from, up_from-holds, below-up_from}
-use Rattle.theory_yields.specs.Choice.{From, or-none}
-use Rattle.theory_yields.specs.FreeNames.{merge-joins, results-from-test}
-use Rattle.theory_yields.specs.Joins.{merge-control}
-use Rattle.theory_yields.specs.BodyWidths.{wide_enough, not-too-wide}
-use Rattle.theory_yields.specs.ArmNames.{arm-from-test, arm-different, arms-apart, narrow, joined-lacks, joined-test}
+use Rattle.theory_yields.specs.Naming.{Small, Apart}
+use Rattle.theory_yields.proofs.Naming.{different-up_from, up_from-holds, below-up_from}
+use Rattle.theory_yields.specs.Choice.{From}
+use Rattle.theory_yields.proofs.Choice.{or-none}
+use Rattle.theory_yields.proofs.FreeNames.{merge-joins, results-from-test}
+use Rattle.theory_yields.proofs.Joins.{merge-control}
+use Rattle.theory_yields.proofs.BodyWidths.{wide_enough, not-too-wide}
+use Rattle.theory_yields.proofs.ArmNames.{arm-from-test, arm-different, arms-apart, narrow, joined-lacks, joined-test}
 use Rattle.graph.specs.Fit.{Different}
 use Rattle.graph.specs.Assembly.{Graph, T, free, member_of, named}
 use Rattle.graph.specs.Translation.{graph_e, test_name, returned_name, arm}
-use Rattle.theory_wiring.specs.ChoiceCounts.{choice-count}
+use Rattle.theory_wiring.proofs.ChoiceCounts.{choice-count}
 use Rattle.maker_laid.specs.Masked.{list_of, Mask, list_length}
 use Rattle.maker_laid.specs.Emitted.{copy_record}
 use Rattle.maker_laid.specs.Counts.{operator_count}

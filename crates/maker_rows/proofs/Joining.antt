@@ -12,11 +12,13 @@ use Rattle.formula.specs.Tree.{Body, if_e, if_b, exp_of, body_of}
 use Rattle.formula.specs.Widths.{width, iterated, either}
 use Rattle.formula.specs.Count.{returns, iterates}
 use Rattle.formula.specs.Admitted.{AdmittedB}
-use Rattle.meaning.specs.WidthLaws.{if-fits, if-fits-B}
-use Rattle.theory_yields.specs.Naming.{length-up_from}
-use Rattle.theory_yields.specs.BodyWidths.{wide_enough, not-too-wide, iterated-16, iterated-some, iterated-none, iterates-some, iterated-both, iterated_outputs, returned_outputs, iterated-outputs, returned-outputs, returned-outputs-none, returned-outputs-le}
-use Rattle.theory_yields.specs.ArmNames.{arm-names, length-arm-names, narrow, iterated_names, returned_names}
-use Rattle.theory_yields.specs.FitGraphs.{count-E, count-B}
+use Rattle.meaning.proofs.WidthLaws.{if-fits, if-fits-B}
+use Rattle.theory_yields.proofs.Naming.{length-up_from}
+use Rattle.theory_yields.proofs.BodyWidths.{wide_enough, not-too-wide, iterated-16, iterated-some, iterated-none, iterates-some, iterated-both, iterated-outputs, returned-outputs, returned-outputs-none, returned-outputs-le}
+use Rattle.theory_yields.specs.BodyWidths.{iterated_outputs, returned_outputs}
+use Rattle.theory_yields.proofs.ArmNames.{arm-names, length-arm-names, narrow}
+use Rattle.theory_yields.specs.ArmNames.{iterated_names, returned_names}
+use Rattle.theory_yields.proofs.FitGraphs.{count-E, count-B}
 use Rattle.graph.specs.Yields.{output_count}
 use Rattle.graph.specs.Assembly.{Graph, Env, up_from}
 use Rattle.graph.specs.Translation.{graph_e, graph_b, test_name, iter_name, iterated_name, returned_name, arm_names, merge_row, joined}

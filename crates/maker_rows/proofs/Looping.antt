@@ -15,9 +15,10 @@ use Rattle.formula.specs.Tree.{for_e, exp_of, body_of}
 use Rattle.formula.specs.Widths.{returned, iterated}
 use Rattle.formula.specs.Free.{free_e, free_b}
 use Rattle.formula.specs.Admitted.{AdmittedE}
-use Rattle.meaning.specs.WidthLaws.{for-fits}
+use Rattle.meaning.proofs.WidthLaws.{for-fits}
 use Rattle.theory_yields.specs.Naming.{Small}
-use Rattle.theory_yields.specs.BodyWidths.{iterated-16, returned_outputs, returned-outputs-le}
+use Rattle.theory_yields.proofs.BodyWidths.{iterated-16, returned-outputs-le}
+use Rattle.theory_yields.specs.BodyWidths.{returned_outputs}
 use Rattle.graph.specs.Assembly.{Graph, loop, free, member_of, up_from, total, links_of}
 use Rattle.graph.specs.Translation.{graph_e, graph_b}
 use Rattle.sheet_tables.specs.Masks.{outside}

@@ -13,13 +13,16 @@ use lib.Dec.{ltb}
 use borrow.Author.Tests.{ltb-true, ltb-false}
 use Rattle.formula.specs.Tree.{exp_of, body_of}
 use Rattle.formula.specs.Widths.{width, iterated}
-use Rattle.theory_yields.specs.Naming.{Small, member-up_from}
-use Rattle.theory_yields.specs.Choice.{Has, unseen}
-use Rattle.theory_yields.specs.FitGraphs.{fit-E, fit-B, count-E, count-B}
-use Rattle.theory_yields.specs.BodyWidths.{returned_outputs, iterated-outputs}
+use Rattle.theory_yields.specs.Naming.{Small}
+use Rattle.theory_yields.proofs.Naming.{member-up_from}
+use Rattle.theory_yields.specs.Choice.{Has}
+use Rattle.theory_yields.proofs.Choice.{unseen}
+use Rattle.theory_yields.proofs.FitGraphs.{fit-E, fit-B, count-E, count-B}
+use Rattle.theory_yields.specs.BodyWidths.{returned_outputs}
+use Rattle.theory_yields.proofs.BodyWidths.{iterated-outputs}
 use Rattle.graph.specs.Fit.{Fit}
 use Rattle.graph.specs.Assembly.{Graph, beside, bind, loop, free, member_of, up_from, total, links_of}
-use Rattle.theory_wiring.specs.Conservation.{length-outputs}
+use Rattle.theory_wiring.proofs.Conservation.{length-outputs}
 use Rattle.sheet_tables.specs.Masks.{outside}
 use Rattle.maker_laid.specs.Masked.{list_of, Mask, mask-short, list_length}
 use Rattle.maker_laid.specs.Emitted.{link_in, dealt}

@@ -19,13 +19,14 @@ use Rattle.formula.specs.Constants.{constant_value}
 use Rattle.formula.specs.Sheet.{shape_at, named_in}
 use Rattle.formula.specs.Ways.{way_of}
 use Rattle.formula.specs.Tree.{Exp, exp_of, body_of, exp_node, body_node}
-use Rattle.formula.specs.TreeLaws.{AllBetween, exp-as, body-as, between-as}
+use Rattle.formula.specs.TreeLaws.{AllBetween}
+use Rattle.formula.proofs.TreeLaws.{exp-as, body-as, between-as}
 use Rattle.formula.specs.Widths.{width, iterated}
 use Rattle.formula.specs.Free.{free_e, free_b}
-use Rattle.meaning.specs.WidthLaws.{operator-fits}
+use Rattle.meaning.proofs.WidthLaws.{operator-fits}
 use Rattle.theory_yields.specs.Choice.{Has}
-use Rattle.theory_yields.specs.FreeNames.{free-E, small-trigger}
-use Rattle.theory_yields.specs.BodyWidths.{not-too-wide}
+use Rattle.theory_yields.proofs.FreeNames.{free-E, small-trigger}
+use Rattle.theory_yields.proofs.BodyWidths.{not-too-wide}
 use Rattle.graph.specs.Yields.{output_count}
 use Rattle.graph.specs.Assembly.{Graph, beside, bind, gate, oper, free, member_of, up_from, gate_outputs}
 use Rattle.graph.specs.Translation.{graph_e, graph_b, constant_of}

@@ -3,9 +3,6 @@
 -- (document 02, Job 1); document 01, "A refusal's counts and rows are 0 unless stated". A log's check stands in LogKept, the tidy call in TidyRefused, the drift call in DriftRefused. Here without the refusals' names, which
 -- Refused adds. Assumes nothing.
 use Rattle.std.specs.Prelude.{ℕ, zero, suc, ◌≡◌, refl, Bool, true, false, ◌&&◌, ◌⊎◌, ◌≢◌, List, leb, ltb, eqb, length}
-use Rattle.std.proofs.Common.{ap, subst, inl, inr, arith}
-use Rattle.std.proofs.Math.Option.{Option, some, none}
-use Rattle.std.proofs.Math.Decide.{ℕ_discrete}
 use Rattle.value.specs.declared.Value.{Value}
 use Rattle.formula.specs.declared.Refusal.TheVariants.{Memory, Capacity, Unfinished}
 use Rattle.formula.specs.declared.Verdict.{Verdict}
@@ -37,22 +34,12 @@ use Rattle.machine_tray.specs.Tray.{set_bytes, trayed, cut, went_in}
 use Rattle.machine_tray.specs.TrayLaws.{tray-of-none}
 use Rattle.machine_tray.specs.OneByOne.{either, push-leaves, Pushes, Stops, went-in, refused-set}
 use Rattle.machine_start.specs.Start.{Begun, by_verdict, started}
-use Rattle.refusals.specs.Conditions.{no_room, short-asked}
-use Rattle.refusals.specs.Rows.{RowTold, VerdictRow, verdict-row}
-use Rattle.refusals.specs.RunCount.{Firings, run_is, run-counts}
+use Rattle.refusals.specs.Rows.{RowTold}
+use Rattle.refusals.specs.RunCount.{Firings}
 
 -- A refusal with count 0 that leaves the memory, or an acceptance.
 abbrev pub Keeps : List ℕ → Outcome → Type 0
 Keeps m o = o.answer.refusal ≢ 0 → (o.answer.count ≡ 0) × (o.mem ≡ m)
-
-pub keeps-refused : (m : List ℕ) (n : ℕ) → Keeps m (outcome (answers n 0) m)
-keeps-refused m n h = (refl, refl)
-
-pub keeps-accepted : (m m' : List ℕ) (c : ℕ) → Keeps m (outcome (answers 0 c) m')
-keeps-accepted m m' c h = absurd (h refl)
-
-pub push-keeps : (m set : List ℕ) → (pushed m set).answer.refusal ≢ 0 → ((pushed m set).answer.count ≡ 0) × ((pushed m set).mem ≡ m)
-push-keeps m set h = let e = push-leaves m set h in (ap (λ (o : Outcome). o.answer.count) e, ap (λ (o : Outcome). o.mem) e)
 
 -- A tray of sets: "For this call the rule on unaltered memory speaks of the refused set alone." The memory is the one after the sets that went in, each
 -- an accepted push, and the push of the set behind them gives the refusal and changes nothing.
@@ -60,41 +47,10 @@ abbrev pub SetRefused : List ℕ → List ℕ → ℕ → Type 0
 SetRefused m sets number =
     Pushes (went_in m sets number) m (trayed m sets number).mem × Stops (cut number (set_bytes m) sets) (went_in m sets number) (trayed m sets number)
 
--- 11 and 31 of a tray of none leave the memory.
-pub tray-keeps : (m sets : List ℕ) (number : ℕ) → (trayed m sets number).answer.refusal ≢ 0
-    → (((trayed m sets number).answer.count ≡ 0) × ((trayed m sets number).mem ≡ m)) ⊎ SetRefused m sets number
-tray-keeps m sets zero h = let e = tray-of-none m sets in inl (ap (λ (o : Outcome). o.answer.count) e, ap (λ (o : Outcome). o.mem) e)
-tray-keeps m sets (suc n) h = inr (went-in m sets (suc n), refused-set m sets (suc n) (omega arith) h)
-
-pub fire-keeps : (m : List ℕ) (i : ℕ) → (fired m i).answer.refusal ≢ 0 → ((fired m i).answer.count ≡ 0) × ((fired m i).mem ≡ m)
-unfolding fired
-fire-keeps m i =
-    either (Keeps m) (eqb (standing m) 0) _ _
-    (either (Keeps m) (ltb i (operators_of m) && able_at m (size_in m) i) _ _ (keeps-accepted m (fired_at m (size_in m) i) 0) (keeps-refused m 34))
-    (keeps-refused m (standing m))
-
 -- "A run's 36 keeps its firings and gives their count", which is the lent number: the memory is the one after that many firings.
 abbrev pub UsedUpFirings : List ℕ → ℕ → Type 0
 UsedUpFirings m firings =
     ((ran m firings).answer.refusal ≡ number_of Unfinished) × ((ran m firings).answer.count ≡ firings) × Firings (size_in m) (operators_of m) firings m (ran m firings).mem
-
--- 11 and 31 leave the memory.
-pub run-keeps : (m : List ℕ) (firings : ℕ) → (ran m firings).answer.refusal ≢ 0
-    → (((ran m firings).answer.count ≡ 0) × ((ran m firings).mem ≡ m)) ⊎ UsedUpFirings m firings
-run-keeps m firings h = go (ℕ_discrete (standing m) 0)
-  where
-    go : Dec (standing m ≡ 0) → (((ran m firings).answer.count ≡ 0) × ((ran m firings).mem ≡ m)) ⊎ UsedUpFirings m firings
-    go (yes st) = used (still_at (runs (size_in m) (operators_of m) firings m 0).mem (size_in m) (operators_of m)) refl
-      where
-        used : (b : Bool) → still_at (runs (size_in m) (operators_of m) firings m 0).mem (size_in m) (operators_of m) ≡ b
-            → (((ran m firings).answer.count ≡ 0) × ((ran m firings).mem ≡ m)) ⊎ UsedUpFirings m firings
-        used true e = absurd (h (run_is m firings st true e).2)
-        used false e =
-            let r = (run_is m firings st false e).2 in
-            let C = run-counts m firings st in
-            let full = (C.unfinished r).0 in
-            inr (r, full, subst (λ (k : ℕ). Firings (size_in m) (operators_of m) k m (ran m firings).mem) full C.between)
-    go (no n) = let e = ran-refused m firings n in inl (ap (λ (o : Outcome). o.answer.count) e, ap (λ (o : Outcome). o.mem) e)
 
 -- A run by rounds: at 36 "the firings kept as at run's 36. The call gives its firings and its rounds, on 36 too" (document 02, Job 7). The rounds are the
 -- lent number, and the memory is the one after them.
@@ -107,102 +63,18 @@ UsedUpRounds m number =
 abbrev pub RoundsLeave : List ℕ → RoundsOutcome → Type 0
 RoundsLeave m o = (o.answer.rounds ≡ 0) × (o.answer.firings ≡ 0) × (o.mem ≡ m)
 
-pub rounds-keeps : (m : List ℕ) (number : ℕ) → (ran_rounds m number).answer.refusal ≢ 0 → RoundsLeave m (ran_rounds m number) ⊎ UsedUpRounds m number
-rounds-keeps m number h = go (ℕ_discrete (standing m) 0)
-  where
-    used : RoundsCount m number (ran_rounds m number) → (b : Bool) → still_at (ran_rounds m number).mem (size_in m) (operators_of m) ≡ b
-        → RoundsLeave m (ran_rounds m number) ⊎ UsedUpRounds m number
-    used C true e = absurd (h (C.finished e))
-    used C false e =
-        let r = C.goes_on e in
-        let full = (C.unfinished r).0 in
-        inr (r, full, subst (λ (k : ℕ). RoundsMade (size_in m) (operators_of m) k (ran_rounds m number).answer.firings m (ran_rounds m number).mem) full C.between)
-
-    go : Dec (standing m ≡ 0) → RoundsLeave m (ran_rounds m number) ⊎ UsedUpRounds m number
-    go (yes st) = used (rounds-count m number st) (still_at (ran_rounds m number).mem (size_in m) (operators_of m)) refl
-    go (no n) =
-        let e = rounds-refused m number n in
-        inl (ap (λ (o : RoundsOutcome). o.answer.rounds) e, ap (λ (o : RoundsOutcome). o.answer.firings) e, ap (λ (o : RoundsOutcome). o.mem) e)
-
 abbrev pub KeepsBoth : List ℕ → List ℕ → Handed → Type 0
 KeepsBoth m out h = h.answer.refusal ≢ 0 → (h.answer.count ≡ 0) × (h.mem ≡ m) × (h.out ≡ out)
 
-pub both-refused : (m out : List ℕ) (n : ℕ) → KeepsBoth m out (handed (answers n 0) m out)
-both-refused m out n h = (refl, refl, refl)
-
-pub take-keeps : (m out : List ℕ) → (taken m out).answer.refusal ≢ 0
-    → ((taken m out).answer.count ≡ 0) × ((taken m out).mem ≡ m) × ((taken m out).out ≡ out)
-unfolding taken
-take-keeps m out =
-    either (KeepsBoth m out) (ltb (length out) 80) _ _ (both-refused m out 11)
-    (either (KeepsBoth m out) (eqb (standing m) 0) _ _
-    (either (KeepsBoth m out) (ltb 0 (untaken_of m) && all_below (results_of m) (result_ready m (size_in m))) _ _
-    (λ h. absurd (h refl))
-    (both-refused m out 35))
-    (both-refused m out (standing m)))
-
 -- ---- sheets, with the row that goes with the refusal
-
 -- Reading is lent the sheet and its kinds line alone.
 abbrev pub ReadKeeps : List ℕ → List ℕ → ReadAnswer → Type 0
 ReadKeeps sheet line a = a.refusal ≢ 0 → RowTold sheet line a.refusal a.row × (a.rows ≡ 0) × (a.operators ≡ 0) × (a.inputs ≡ 0) × (a.results ≡ 0)
-
-read_by : (sheet line : List ℕ) (v : Verdict) (f : Figures) → VerdictRow sheet line v → ReadKeeps sheet line (answer_of (answer_by v f))
-unfolding answer_by
-read_by sheet line passed f s h = absurd (h refl)
-read_by sheet line (refused r row) f s h = ((r, refl, s), refl, refl, refl, refl)
-
-pub read_keeps : (s line : List ℕ) → ReadKeeps s line (answer_of (reading_of s line))
-unfolding reading_of
-read_keeps s line = read_by s line (verdict_of s line) (figures_of s) (verdict-row s line)
 
 abbrev pub StartKeeps : List ℕ → List ℕ → List ℕ → Begun → Type 0
 StartKeeps sheet line m b = b.answer.refusal ≢ 0
     → RowTold sheet line b.answer.refusal b.answer.row × (b.answer.operators ≡ 0) × (b.answer.inputs ≡ 0) × (b.answer.results ≡ 0) × (b.mem ≡ m)
 
-start-by : (sheet line : List ℕ) (v : Verdict) (x : Exp) (kinds : List ℕ) (capacity : ℕ) (m : List ℕ) → VerdictRow sheet line v → StartKeeps sheet line m (by_verdict v x kinds capacity m)
-unfolding by_verdict
-start-by sheet line passed x kinds capacity m s h = absurd (h refl)
-start-by sheet line (refused r row) x kinds capacity m s h = ((r, refl, s), refl, refl, refl, refl)
-
-pub start-keeps : (sheet line : List ℕ) (capacity : ℕ) (m : List ℕ) → StartKeeps sheet line m (started sheet line capacity m)
-unfolding started
-start-keeps sheet line capacity m =
-    either (StartKeeps sheet line m) (short-asked capacity m) _ _ (λ h. ((Memory, refl, refl), refl, refl, refl, refl))
-    (either (StartKeeps sheet line m) (leb 1 capacity && leb capacity 16) _ _
-    (start-by sheet line (verdict_of sheet line) (formula_of sheet) (letters_of (formula_of sheet) line) capacity m (verdict-row sheet line))
-    (λ h. ((Capacity, refl, refl), refl, refl, refl, refl)))
-
 abbrev pub EvaluateKeeps : List ℕ → List ℕ → List ℕ → Evaluated → Type 0
 EvaluateKeeps sheet line out e = e.answer.refusal ≢ 0
     → RowTold sheet line e.answer.refusal e.answer.row × (e.answer.width ≡ 0) × (e.answer.rounds ≡ 0) × (e.out ≡ out)
-
-told-by : (sheet line : List ℕ) (v : Verdict) (e : Evaluation) (out : List ℕ) → VerdictRow sheet line v → EvaluateKeeps sheet line out (told v e out)
-unfolding told
-told-by sheet line passed e out s h = absurd (h refl)
-told-by sheet line (refused r row) e out s h = ((r, refl, s), refl, refl, refl)
-
-concluded-row : (sheet line : List ℕ) (rounds : ℕ) (o : Ended) → VerdictRow sheet line (concluded rounds o).verdict
-unfolding concluded
-concluded-row sheet line rounds (yields vs left) = tt
-concluded-row sheet line rounds Ended.unfinished = refl
-
-set-row : (sheet line : List ℕ) (x : Exp) (rounds : ℕ) (o : Option (List Value)) → VerdictRow sheet line (evaluated_with x rounds o).verdict
-set-row sheet line x rounds (some vs) = concluded-row sheet line rounds (eval_e x (inputs_hold (free_e x) vs) rounds)
-set-row sheet line x rounds none = refl
-
-after-row : (sheet line : List ℕ) (v : Verdict) (e : Evaluation) → VerdictRow sheet line v → VerdictRow sheet line e.verdict → VerdictRow sheet line (after_verdict v e).verdict
-after-row sheet line passed e a b = b
-after-row sheet line (refused r row) e a b = a
-
-evaluation-row : (sheet line set : List ℕ) (rounds : ℕ) → VerdictRow sheet line (evaluation_of sheet line set rounds).verdict
-unfolding evaluation_of evaluated
-evaluation-row sheet line set rounds =
-    after-row sheet line (verdict_of sheet line) (evaluated (formula_of sheet) (letters_of (formula_of sheet) line) set rounds) (verdict-row sheet line)
-    (set-row sheet line (formula_of sheet) rounds (set_values (letters_of (formula_of sheet) line) set))
-
-pub evaluate-keeps : (sheet line set : List ℕ) (rounds : ℕ) (out : List ℕ) → EvaluateKeeps sheet line out (handed_out sheet line set rounds out)
-unfolding handed_out
-evaluate-keeps sheet line set rounds out =
-    either (EvaluateKeeps sheet line out) (no_room out) _ _ (λ h. ((Memory, refl, refl), refl, refl, refl))
-    (told-by sheet line (evaluation_of sheet line set rounds).verdict (evaluation_of sheet line set rounds) out (evaluation-row sheet line set rounds))

@@ -2,8 +2,6 @@ pub mod FirstRefusal
 pub mod Conditions
 pub mod Exact
 pub mod TrayExact
-pub mod LogLaws
-pub mod LogExact
 pub mod RunCount
 pub mod Rows
 pub mod LogRows

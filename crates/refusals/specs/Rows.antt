@@ -15,10 +15,8 @@ use Rattle.formula.specs.Free.{free_e}
 use Rattle.formula.specs.Kinds.{Rule, kinded}
 use Rattle.formula.specs.Faults.{input_kinds}
 use Rattle.formula.specs.TreeLaws.{Named as Naming-well}
-use Rattle.formula.specs.RowsMet.{LowestBroken, lowest-broken}
-use Rattle.formula.specs.Acceptance.{each-naming}
-use Rattle.formula.specs.TestLaws.{lowest-fault, whole-zero}
-use Rattle.formula.specs.Verdicts.{Each, ◌also◌, FaultSays, later-says}
+use Rattle.formula.specs.RowsMet.{LowestBroken}
+use Rattle.formula.specs.Verdicts.{Each, ◌also◌, FaultSays}
 use Rattle.sheet_movement.specs.Sorts.{drifting}
 
 -- The lowest of n rows that is not well.
@@ -74,31 +72,3 @@ RowTold s line n row = (r : Refusal) × (number_of r ≡ n) × RowOf s line r ro
 abbrev pub VerdictRow : List ℕ → List ℕ → Verdict → Type 0
 VerdictRow s line passed = Unit {0}
 VerdictRow s line (refused r row) = RowOf s line r row
-
-pub by-refusal : (s line : List ℕ) (v : Verdict) → ((r : Refusal) (row : ℕ) → v ≡ refused r row → RowOf s line r row) → VerdictRow s line v
-by-refusal s line passed h = tt
-by-refusal s line (refused r row) h = h r row refl
-
-pub lowest-at : (n : ℕ) (well : ℕ → Bool) (row : ℕ) → lowest n well ≡ Fault row → LowestAt n well row
-lowest-at n well row h = let i = lowest-fault n well row h in record { first = i.0; last = i.1; fault = i.2; lower = i.3 }
-
-pub row-faults : (s line : List ℕ) → Each (FaultSays (RowOf s line) (sheet_of s)) row_tests
-unfolding row_tests sheet_of
-row-faults s line =
-    whole-zero (laid_out s (lines_of s)) also whole-zero (few_rows s) also lowest-at _ _ also lowest-at _ _ also lowest-at _ _ also tt
-
--- Behind test 5, which says that the rows named are the sheet's.
-pub later-faults : (s line : List ℕ) → Naming-well (fields_of s) (row_count s) → Each (FaultSays (RowOf s line) (sheet_of s)) (formula_tests ++ (kind_tests line ++ graph_tests))
-unfolding formula_tests kind_tests graph_tests sheet_of kinds_kept
-later-faults s line ok =
-    lowest-at _ _ also lowest-at _ _ also lowest-at _ _ also lowest-at _ _
-    also whole-zero (line_fits (fields_of s) (row_count s) line) also lowest-broken kinded (fields_of s) (row_count s) ok _
-    also whole-zero (leb (operators_of (fields_of s) (row_count s)) 1024) also tt
-
--- What reading says of a sheet has the row that goes with it.
-pub verdict-row : (s line : List ℕ) → VerdictRow s line (verdict_of s line)
-unfolding verdict_of tests
-verdict-row s line =
-    by-refusal s line (verdict_of s line)
-    (later-says (sheet_of s) (RowOf s line) row_tests (formula_tests ++ (kind_tests line ++ graph_tests)) (row-faults s line)
-    (λ h. later-faults s line (each-naming s h)))

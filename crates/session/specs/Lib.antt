@@ -2,17 +2,13 @@ pub mod Passes
 pub mod Waiting
 pub mod PassLaws
 pub mod FeedLaws
-pub mod StageLaws
 pub mod Output
 pub mod LongLines
-pub mod OutputLaws
 pub mod Opening
-pub mod OpeningLaws
 pub mod Reading
 pub mod Reached
 pub mod WholeSets
 pub mod Onward
 pub mod Ending
 pub mod Firings
-pub mod AnyMemory
 pub mod OwnLines

@@ -19,7 +19,7 @@ use Rattle.formula.specs.Places.{Node, expression, body}
 use Rattle.formula.specs.Widths.{width, returned, iterated}
 use Rattle.formula.specs.Free.{free_e, free_b}
 use Rattle.formula.specs.Count.{Count, ◌⊕◌, gates, copies, joins, returns, iterates, count_e, count_b}
-use Rattle.formula.specs.CountLaws.{pair-count, operator-count, let-count, if-count, for-count, ret-count, iter-count, body-let-count, body-if-count}
+use Rattle.formula.proofs.CountLaws.{pair-count, operator-count, let-count, if-count, for-count, ret-count, iter-count, body-let-count, body-if-count}
 use Rattle.formula.specs.Tests.{occurrences}
 use Rattle.formula.specs.TreeLaws.{AllBetween}
 use Rattle.sheet_count.specs.declared.count.Own.{Own}

@@ -19,7 +19,8 @@ use Rattle.formula.specs.Places.{Node, expression, body, node_in, is_in_body, pl
 use Rattle.formula.specs.Count.{Count, count_e, count_b}
 use Rattle.formula.specs.Tests.{occurrences, operators_of}
 use Rattle.formula.specs.TreeLaws.{AllBetween}
-use Rattle.formula.specs.PlaceLaws.{Namer, namer, last-place}
+use Rattle.formula.specs.PlaceLaws.{Namer}
+use Rattle.formula.proofs.PlaceLaws.{namer, last-place}
 use Rattle.sheet_count.specs.declared.count.Own.{Own}
 use Rattle.sheet_count.specs.declared.count.Total.TheVariants.{Within, Over}
 use Rattle.sheet_tables.specs.Nodes.{node_at, returned_in, iterated_in, free_in, count_in, Holds}

@@ -7,15 +7,17 @@ use Rattle.formula.specs.declared.Shape.{Shape}
 use Rattle.formula.specs.declared.Shape.TheVariants.{Identifier, Constant, Pair, Operator, Let, If, For, Iter}
 use Rattle.formula.specs.Sheet.{shape_at}
 use Rattle.formula.specs.Tree.{exp_node, exp_of, body_of}
-use Rattle.formula.specs.TreeLaws.{exp-as}
+use Rattle.formula.proofs.TreeLaws.{exp-as}
 use Rattle.formula.specs.Faults.{kind_check}
-use Rattle.formula.specs.FaultRows.{none-lowest}
-use Rattle.meaning.specs.Rows.{ExpRow, ExpChildren, exp-children, exp-facts}
+use Rattle.formula.proofs.FaultRows.{none-lowest}
+use Rattle.meaning.specs.Rows.{ExpRow, ExpChildren}
+use Rattle.meaning.proofs.Rows.{exp-children, exp-facts}
 use Rattle.eval_words.specs.Needs.{W}
 use Rattle.sheet_movement.specs.Sorts.{code_sort, sorts_kept}
 use Rattle.sheet_movement.specs.Moves.{Moves, moves_e}
-use Rattle.sheet_movement.specs.Drifts.{Drifts, faultless-drifts}
-use Rattle.sheet_movement.specs.Numbers.{moves-width}
+use Rattle.sheet_movement.specs.Drifts.{Drifts}
+use Rattle.sheet_movement.proofs.Drifts.{faultless-drifts}
+use Rattle.sheet_movement.proofs.Numbers.{moves-width}
 
 -- The rows that such a row names.
 abbrev pub DriftsBelow : List ℕ → Shape → Type 0

@@ -7,11 +7,12 @@ use borrow.Author.Tests.{not-true, eqb-false, ne_eqb}
 use Rattle.value.specs.Operators.{pick}
 use Rattle.formula.specs.declared.Shape.{Shape}
 use Rattle.formula.specs.declared.Shape.TheVariants.{Identifier, Constant, Pair, Operator, Let, If, For, Iter}
-use Rattle.formula.specs.Constants.{most-bounded}
+use Rattle.formula.proofs.Constants.{most-bounded}
 use Rattle.formula.specs.Sheet.{shape_at}
 use Rattle.formula.specs.Tree.{Exp, exp_node, exp_of}
-use Rattle.formula.specs.TreeLaws.{and-true}
-use Rattle.meaning.specs.Rows.{ExpRow, ExpChildren, exp-children, bounds-as}
+use Rattle.formula.proofs.TreeLaws.{and-true}
+use Rattle.meaning.specs.Rows.{ExpRow, ExpChildren}
+use Rattle.meaning.proofs.Rows.{exp-children, bounds-as}
 use Rattle.sheet_movement.specs.Sorts.{code_sort}
 use Rattle.sheet_movement.specs.Moves.{over, multiplied, divided, moved}
 use Rattle.sheet_sorts.specs.Shapes.{whole_row, amount_row, names_whole_row, divides_by_whole_row, known, whole_row_lem, amount-row, code_row_lem}

@@ -12,11 +12,11 @@ use Rattle.std.proofs.lemmas.Bool.{eqb-false}
 use Rattle.names.specs.Names.{below, mask}
 use Rattle.names.proofs.Sets.{mask-has, below-mono, below-cong}
 use Rattle.formula.specs.Tree.{Exp}
-use Rattle.formula.specs.TreeLaws.{and-true}
+use Rattle.formula.proofs.TreeLaws.{and-true}
 use Rattle.formula.specs.Free.{free_e, inputs_of}
 use Rattle.eval_words.specs.Inputs.{set_in, inputs-below}
 use Rattle.sheet_movement.specs.Moves.{Moves, all_within, number_at, numbers_from, tolerances_well, input_moves, number_bytes}
-use Rattle.sheet_movement.specs.Numbers.{length-number-bytes}
+use Rattle.sheet_movement.proofs.Numbers.{length-number-bytes}
 use Rattle.sheet_drift.specs.Stores.{sets-append}
 
 -- The numbers that an array holds, as those of identifiers.

@@ -20,8 +20,9 @@ use Rattle.formula.specs.TreeLaws.{Named}
 use Rattle.formula.specs.Free.{free_e, inputs_of}
 use Rattle.formula.specs.Faults.{line_well}
 use Rattle.formula.specs.Tests.{whole, line_fits, after_check, verdict_by, verdict_of, tests, sheet_of}
-use Rattle.formula.specs.Verdicts.{then, then-behind}
-use Rattle.formula.specs.RowsMet.{lowest-broken}
+use Rattle.formula.specs.Verdicts.{then}
+use Rattle.formula.proofs.Verdicts.{then-behind}
+use Rattle.formula.proofs.RowsMet.{lowest-broken}
 use Rattle.meaning.specs.Rows.{ExpRow}
 use Rattle.eval_words.specs.Needs.{W}
 use Rattle.sheet_read.specs.Reading.{Tables, Accepts, Told, rows_in, told-kinded}

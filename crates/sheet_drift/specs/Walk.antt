@@ -14,14 +14,15 @@ use Rattle.formula.specs.declared.Shape.{Shape}
 use Rattle.formula.specs.declared.Shape.TheVariants.{Identifier, Constant, Pair, Operator, Let}
 use Rattle.formula.specs.Sheet.{shape_at}
 use Rattle.formula.specs.Tree.{Exp, identifier, constant, pair, operator, let_e, if_e, for_e, exp_node, exp_of, body_of}
-use Rattle.formula.specs.TreeLaws.{and-true}
-use Rattle.meaning.specs.Rows.{ExpRow, exp-children}
+use Rattle.formula.proofs.TreeLaws.{and-true}
+use Rattle.meaning.specs.Rows.{ExpRow}
+use Rattle.meaning.proofs.Rows.{exp-children}
 use Rattle.eval_words.specs.Needs.{W, exp-needs}
 use Rattle.sheet_movement.specs.Moves.{Moves, bind_moves, all_within, moved, moves_e, fits_e}
 use Rattle.sheet_drift.specs.Numbers.{moves_in}
 use Rattle.sheet_drift.specs.Stores.{sets-append, sets-before, sets-among, sets_behind}
 use Rattle.sheet_movement.specs.Drifts.{Drifts}
-use Rattle.sheet_movement.specs.Numbers.{fits-within}
+use Rattle.sheet_movement.proofs.Numbers.{fits-within}
 use Rattle.sheet_drift.specs.Drifts.{tree, drifts-below, moves-counted}
 
 -- No number passes the greatest.

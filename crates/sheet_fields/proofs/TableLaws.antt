@@ -8,7 +8,8 @@ use lib.Dec.{leb}
 use native.Mathlib.Decide.{dec_le}
 use borrow.Author.Tests.{le-leb, lt-leb}
 use Rattle.formula.specs.Sheet.{row_count, lines_of, fields_of}
-use Rattle.formula.specs.SheetLaws.{line_fields, length-line, fields-length, fields-more}
+use Rattle.formula.specs.SheetLaws.{line_fields}
+use Rattle.formula.proofs.SheetLaws.{length-line, fields-length, fields-more}
 use Rattle.formula.specs.Tests.{line_at}
 use lib.Seq.{paste, sets, sets-eq, take-paste, drop-paste, drop-drop, length-paste, length-take-le, take_at}
 

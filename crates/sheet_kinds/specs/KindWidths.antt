@@ -5,8 +5,9 @@ use Rattle.formula.specs.declared.Shape.TheVariants.{For}
 use Rattle.formula.specs.Sheet.{shape_at}
 use Rattle.formula.specs.Tree.{exp_of, body_of}
 use Rattle.formula.specs.Kinds.{Kinds, kinds_e, returned_kinds}
-use Rattle.formula.specs.KindWidths.{kinds-length, returned-length}
-use Rattle.meaning.specs.Rows.{ExpRow, exp-facts}
+use Rattle.formula.proofs.KindWidths.{kinds-length, returned-length}
+use Rattle.meaning.specs.Rows.{ExpRow}
+use Rattle.meaning.proofs.Rows.{exp-facts}
 use Rattle.eval_words.specs.Needs.{W, exp-needs}
 use Rattle.sheet_kinds.specs.Bytes.{kinds_in, stretch, length-stretch}
 

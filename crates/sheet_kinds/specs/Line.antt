@@ -13,7 +13,7 @@ use Rattle.value.specs.Kinds.{is_letter, kind_of_letter}
 use Rattle.names.specs.Names.{below, mask}
 use Rattle.names.proofs.Sets.{mask-has, below-mono, below-cong}
 use Rattle.formula.specs.Tree.{Exp}
-use Rattle.formula.specs.TreeLaws.{and-true}
+use Rattle.formula.proofs.TreeLaws.{and-true}
 use Rattle.formula.specs.Free.{free_e, inputs_of}
 use Rattle.formula.specs.Faults.{line_well, input_kinds}
 use Rattle.eval_words.specs.Inputs.{set_in, inputs-below}

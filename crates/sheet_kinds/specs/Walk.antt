@@ -15,12 +15,14 @@ use Rattle.formula.specs.declared.Check.{Check}
 use Rattle.formula.specs.declared.Check.TheVariants.{Passed}
 use Rattle.formula.specs.Sheet.{shape_at}
 use Rattle.formula.specs.Tree.{Exp, exp_node, exp_of, body_of}
-use Rattle.formula.specs.TreeLaws.{exp-as}
+use Rattle.formula.proofs.TreeLaws.{exp-as}
 use Rattle.formula.specs.Places.{node_in}
 use Rattle.formula.specs.Kinds.{Kinds, bind_kinds, kind_of_constant, kinds_e, returned_kinds, iterated_kinds, same_kinds, kinded_e, kinded}
 use Rattle.formula.specs.Faults.{faults_below, lowest_of}
-use Rattle.formula.specs.FaultLaws.{faults_at, faults-as}
-use Rattle.meaning.specs.Rows.{ExpRow, exp-children}
+use Rattle.formula.specs.FaultLaws.{faults_at}
+use Rattle.formula.proofs.FaultLaws.{faults-as}
+use Rattle.meaning.specs.Rows.{ExpRow}
+use Rattle.meaning.proofs.Rows.{exp-children}
 use Rattle.eval_words.specs.Needs.{W, exp-needs}
 use Rattle.sheet_kinds.specs.Bytes.{kind_of_byte, kinds_in, stretch, Written, bind-append, read}
 use Rattle.sheet_kinds.specs.Checks.{lesser, own, lowest-append, lowest-own}

@@ -16,13 +16,15 @@ use Rattle.formula.specs.declared.Way.TheVariants.{Iter as iter-way, Let as let-
 use Rattle.formula.specs.declared.Check.{Check}
 use Rattle.formula.specs.Sheet.{shape_at}
 use Rattle.formula.specs.Tree.{Body, ret, body_node, exp_of, body_of}
-use Rattle.formula.specs.TreeLaws.{body-as}
+use Rattle.formula.proofs.TreeLaws.{body-as}
 use Rattle.formula.specs.Places.{node_in}
 use Rattle.formula.specs.Ways.{way_of}
 use Rattle.formula.specs.Kinds.{Kinds, bind_kinds, either_kinds, agree_kinds, kinds_e, returned_kinds, iterated_kinds, kinded_b, kinded}
 use Rattle.formula.specs.Faults.{faults_below, lowest_of}
-use Rattle.formula.specs.FaultLaws.{faults_at, faults-as}
-use Rattle.meaning.specs.Rows.{BodyRow, ExpRow, Plain, body-children, plain-as, ending-row}
+use Rattle.formula.specs.FaultLaws.{faults_at}
+use Rattle.formula.proofs.FaultLaws.{faults-as}
+use Rattle.meaning.specs.Rows.{BodyRow, ExpRow, Plain}
+use Rattle.meaning.proofs.Rows.{body-children, plain-as, ending-row}
 use Rattle.eval_words.specs.Needs.{W, body-needs, narrow}
 use Rattle.sheet_kinds.specs.declared.BodyKinds.{BodyKinds}
 use Rattle.sheet_kinds.specs.Bytes.{kinds_in, stretch, read}

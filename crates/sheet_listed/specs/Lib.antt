@@ -1,6 +1,5 @@
 pub mod Small
 pub mod Search
-pub mod Lists
 pub mod RowLaws
 pub mod Texts
 pub mod Listed
@@ -10,13 +9,9 @@ pub mod Rising
 pub mod NextLaws
 pub mod Walks
 pub mod Contents
-pub mod Numbers
 pub mod LoopRows
 pub mod RowSizes
-pub mod Passing
 pub mod NoLoops
 pub mod Standing
 pub mod SearchLaws
-pub mod SmallTests
 pub mod Followed
-pub mod Behind

@@ -1,8 +1,6 @@
 pub mod Sorts
 pub mod Drifts
 pub mod Moves
-pub mod Numbers
-pub mod Passed
 pub mod Within
 pub mod Near
 pub mod Outcomes

@@ -9,13 +9,3 @@ Each P Outcome.unfinished = Unit {0}
 
 abbrev pub Any : List Value → Type 0
 Any vs = Unit {0}
-
-pub any : (o : Outcome) → Each Any o
-any (yields vs l) = tt
-any Outcome.unfinished = tt
-
-pub then-each : (P Q : List Value → Type 0) (o : Outcome) (f : List Value → ℕ → Outcome) → Each P o → ((vs : List Value) (l : ℕ) → P vs → Each Q (f vs l))
-    → Each Q (then o f)
-unfolding then
-then-each P Q (yields vs l) f h k = k vs l h
-then-each P Q Outcome.unfinished f h k = tt

@@ -14,18 +14,20 @@ use Rattle.value.specs.Operators.{pick}
 use Rattle.formula.specs.declared.Refusal.TheVariants.{Memory, Unlisted, LastListed}
 use Rattle.formula.specs.Refusals.{number_of}
 use Rattle.formula.specs.Sheet.{row_count, fields_of}
-use Rattle.text.specs.PrintLaws.{written_both}
+use Rattle.text.proofs.PrintLaws.{written_both}
 use Rattle.sheet_tidied.specs.Text.{row_text, sheet_text}
-use Rattle.sheet_tidied.specs.TextLaws.{row-text-length, text-append, text-one}
+use Rattle.sheet_tidied.proofs.TextLaws.{row-text-length, text-append, text-one}
 use Rattle.sheet_listed.specs.Small.{Behind, next, none-behind, unlisted, is_small, next_of}
 use Rattle.sheet_listed.specs.Search.{Rows, or_else, down_from, up_from}
-use Rattle.sheet_listed.specs.Texts.{field_row, rows_of, rows-length, row-fields, row-among, small-has, small-text}
-use Rattle.sheet_listed.specs.Listed.{small-rows, next-unlisted}
-use Rattle.sheet_listed.specs.Standing.{Agree, passing-stands}
-use Rattle.sheet_listed.specs.NoLoops.{small-no-loops}
-use Rattle.sheet_listed.specs.Passing.{small-passing}
+use Rattle.sheet_listed.specs.Texts.{field_row, rows_of}
+use Rattle.sheet_listed.proofs.Texts.{rows-length, row-fields, row-among, small-has, small-text}
+use Rattle.sheet_listed.proofs.Listed.{small-rows, next-unlisted}
+use Rattle.sheet_listed.specs.Standing.{Agree}
+use Rattle.sheet_listed.proofs.Standing.{passing-stands}
+use Rattle.sheet_listed.proofs.NoLoops.{small-no-loops}
+use Rattle.sheet_listed.proofs.Passing.{small-passing}
 use Rattle.sheet_listed.specs.Followed.{told}
-use Rattle.sheet_listed.specs.Behind.{next-first, next-behind}
+use Rattle.sheet_listed.proofs.Behind.{next-first, next-behind}
 use Rattle.sheet_stands.specs.Fronts.{rows_to, Content}
 use Rattle.sheet_stands.proofs.ContentLaws.{listed-content}
 use Rattle.sheet_stands.proofs.FrontLaws.{row-alike, stand-alike}

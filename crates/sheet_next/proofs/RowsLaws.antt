@@ -7,7 +7,8 @@ use native.Mathlib.Decide.{ℕ_discrete}
 use lib.ListN.{length, get_or, take, drop, length-append, get_or-append}
 use lib.Seq.{sets, sets-eq, take-add, take_all, drop-cons, length-take-le, get_or-take, get_or-append-add, get_or-append_seam, take-append-le}
 use Rattle.formula.specs.Sheet.{field}
-use Rattle.sheet_tidied.specs.TextLaws.{Row, five, Rows as Written, row-length, rows_append}
+use Rattle.sheet_tidied.specs.TextLaws.{Row, five, Rows as Written}
+use Rattle.sheet_tidied.proofs.TextLaws.{row-length, rows_append}
 use Rattle.sheet_listed.specs.Search.{Rows}
 use Rattle.sheet_listed.specs.Texts.{field_row}
 use Rattle.sheet_listed.specs.Standing.{Agree}

@@ -10,15 +10,16 @@ use lib.ListN.{length, take}
 use lib.Seq.{sets, length-sets, length-take-le}
 use Rattle.formula.specs.declared.Check.TheVariants.{Passed}
 use Rattle.formula.specs.Tests.{lowest, ranges_well, names_well}
-use Rattle.formula.specs.TestLaws.{each-passed}
+use Rattle.formula.proofs.TestLaws.{each-passed}
 use Rattle.sheet_tidied.specs.Text.{sheet_text}
 use Rattle.sheet_listed.specs.Small.{is_small}
 use Rattle.sheet_listed.specs.Search.{Rows, first_small, or_else, searched, content_at, stands_at}
 use Rattle.sheet_listed.specs.Texts.{field_row}
 use Rattle.sheet_listed.specs.Listed.{RowsListed}
 use Rattle.sheet_listed.specs.Standing.{Agree}
-use Rattle.sheet_listed.specs.SearchLaws.{behind_row, search-step, search-inner, search-leaf, search-leave}
-use Rattle.sheet_listed.specs.SmallTests.{small-by-tests}
+use Rattle.sheet_listed.specs.SearchLaws.{behind_row}
+use Rattle.sheet_listed.proofs.SearchLaws.{search-step, search-inner, search-leaf, search-leave}
+use Rattle.sheet_listed.proofs.SmallTests.{small-by-tests}
 use Rattle.sheet_stands.specs.Fronts.{rows_to, Content, Front}
 use Rattle.sheet_stands.specs.Tests.{formula_passes}
 use Rattle.sheet_stands.proofs.ContentLaws.{content-row, content-range}

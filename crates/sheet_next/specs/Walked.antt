@@ -9,11 +9,11 @@ use Rattle.value.specs.Operators.{pick}
 use Rattle.formula.specs.declared.Refusal.TheVariants.{Memory}
 use Rattle.formula.specs.Refusals.{number_of}
 use Rattle.sheet_listed.specs.Small.{is_small, small_sheets, Behind, next, none-behind, next_of}
-use Rattle.sheet_listed.specs.Texts.{small-has}
-use Rattle.sheet_listed.specs.Listed.{listed-iff}
-use Rattle.sheet_listed.specs.Ordered.{at-among, among-at}
-use Rattle.sheet_listed.specs.Rising.{listed-once}
-use Rattle.sheet_listed.specs.Walks.{nth-next, last-next}
+use Rattle.sheet_listed.proofs.Texts.{small-has}
+use Rattle.sheet_listed.proofs.Listed.{listed-iff}
+use Rattle.sheet_listed.proofs.Ordered.{at-among, among-at}
+use Rattle.sheet_listed.proofs.Rising.{listed-once}
+use Rattle.sheet_listed.proofs.Walks.{nth-next, last-next}
 use Rattle.sheet_next.specs.Next.{Handed, handed, answers, by_behind, next_into}
 
 -- The sheet that a call wrote: as many rows of its memory as it tells.

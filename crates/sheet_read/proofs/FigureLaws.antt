@@ -14,7 +14,8 @@ use Rattle.formula.specs.Tree.{exp_of, formula_of}
 use Rattle.formula.specs.Widths.{width}
 use Rattle.formula.specs.Free.{free_e}
 use Rattle.formula.specs.Tests.{operators_of, reading_of, figures_of}
-use Rattle.formula.specs.Acceptance.{Modest, modest, low-row, passed-admissible, accepted-passed, accepted-figures, rejected-refused}
+use Rattle.formula.specs.Acceptance.{Modest}
+use Rattle.formula.proofs.Acceptance.{modest, low-row, passed-admissible, accepted-passed, accepted-figures, rejected-refused}
 use Rattle.eval_words.specs.Inputs.{inputs_in, inputs_in_lem}
 use Rattle.sheet_read.specs.Reading.{Tables, Accepts}
 use Rattle.sheet_read.proofs.ReadLaws.{some-rows, last-width, last-mask}

@@ -15,18 +15,19 @@ use Rattle.formula.specs.declared.Refusal.TheVariants.{Layout, Rows, Malformed, 
 use Rattle.formula.specs.declared.Verdict.{Verdict}
 use Rattle.formula.specs.declared.Verdict.TheVariants.{Passed as passed, Refused}
 use Rattle.formula.specs.Sheet.{row_count, lines_of, fields_of}
-use Rattle.formula.specs.SheetLaws.{fields-length}
+use Rattle.formula.proofs.SheetLaws.{fields-length}
 use Rattle.formula.specs.Tree.{exp_of}
 use Rattle.formula.specs.Places.{Node, expression, node_in, is_in_body, places_of}
-use Rattle.formula.specs.PlaceLaws.{last-place}
+use Rattle.formula.proofs.PlaceLaws.{last-place}
 use Rattle.formula.specs.Widths.{width}
 use Rattle.formula.specs.Free.{free_e, inputs_of}
 use Rattle.formula.specs.Kinds.{kinded}
 use Rattle.formula.specs.Faults.{line_well, input_kinds, kind_check}
 use Rattle.formula.specs.Tests.{after_check, whole, is-passed, lowest, ended_at, laid_out, few_rows, fields_well, ranges_well, names_well, named_once, all_named, placed_well, widths_well, bound_well, line_fits, kinds_kept, operators_of, verdict_of, verdict_by, tests, row_tests, formula_tests, kind_tests, graph_tests, sheet_of}
-use Rattle.formula.specs.TestLaws.{passed-each, whole-true}
-use Rattle.formula.specs.Verdicts.{Each, Passes, then, all_pass, then-behind}
-use Rattle.formula.specs.TreeLaws.{and-true}
+use Rattle.formula.proofs.TestLaws.{passed-each, whole-true}
+use Rattle.formula.specs.Verdicts.{Each, Passes, then}
+use Rattle.formula.proofs.Verdicts.{all_pass, then-behind}
+use Rattle.formula.proofs.TreeLaws.{and-true}
 use Rattle.sheet_fields.specs.Decoding.{seen}
 use Rattle.names.specs.Names.{mask}
 use Rattle.sheet_tables.specs.Nodes.{node_at, returned_in, free_in, Holds}
@@ -35,7 +36,7 @@ use Rattle.sheet_count.specs.declared.count.Total.{Total}
 use Rattle.sheet_count.specs.declared.count.Total.TheVariants.{Within, Over}
 use Rattle.sheet_count.specs.Counts.{total_of}
 use Rattle.meaning.specs.Rows.{ExpRow, width_in}
-use Rattle.meaning.specs.Accepted.{accepted-rows, last_row}
+use Rattle.meaning.proofs.Accepted.{accepted-rows, last_row}
 use Rattle.sheet_read.specs.Reading.{rows_in, row_verdict, kind_verdict, table_verdict, formula_verdict, Rowed}
 use Rattle.sheet_rows.proofs.RowLaws.{named_by}
 

@@ -10,7 +10,8 @@ use Rattle.formula.specs.Refusals.{number_of}
 use Rattle.formula.specs.Sheet.{row_count, fields_of}
 use Rattle.formula.specs.Places.{places_of}
 use Rattle.formula.specs.Tests.{Sheet, operators_of, sheet_of, row_tests, formula_tests, kind_tests, graph_tests, verdict_by, verdict_of}
-use Rattle.formula.specs.Acceptance.{Admissible, Kinded, passed-admissible, passed-kinded}
+use Rattle.formula.specs.Acceptance.{Admissible, Kinded}
+use Rattle.formula.proofs.Acceptance.{passed-admissible, passed-kinded}
 use Rattle.meaning.specs.Rows.{ExpRow}
 use Rattle.sheet_read.specs.declared.read.ReadAnswer.{ReadAnswer}
 use Rattle.sheet_read.specs.declared.read.Tested.{Tested}

@@ -13,9 +13,10 @@ use borrow.Author.Tests.{eq-eqb, ne_eqb}
 use Rattle.formula.specs.declared.Check.TheVariants.{Passed}
 use Rattle.formula.specs.Sheet.{shape_at, named_in}
 use Rattle.formula.specs.Tests.{placed_well, is_iter, occurrences, all_named, named_once, names_well, lowest}
-use Rattle.formula.specs.TestLaws.{passed-each, same-lowest}
-use Rattle.formula.specs.TreeLaws.{AllBetween, all-between, Named}
-use Rattle.formula.specs.PlaceLaws.{occurs-append}
+use Rattle.formula.proofs.TestLaws.{passed-each, same-lowest}
+use Rattle.formula.specs.TreeLaws.{AllBetween, Named}
+use Rattle.formula.proofs.TreeLaws.{all-between}
+use Rattle.formula.proofs.PlaceLaws.{occurs-append}
 use Rattle.sheet_rows.specs.Tallies.{oftener, tally, tallied}
 
 pub and-true-last : (b : Bool) → b && true ≡ b

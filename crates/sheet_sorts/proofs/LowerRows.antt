@@ -12,11 +12,13 @@ use Rattle.formula.specs.declared.Shape.TheVariants.{Identifier, Constant, Pair,
 use Rattle.formula.specs.declared.Check.{Check}
 use Rattle.formula.specs.declared.Check.TheVariants.{Passed, Fault}
 use Rattle.formula.specs.Sheet.{shape_at, named_in}
-use Rattle.formula.specs.TreeLaws.{AllBetween, Named, between-as}
+use Rattle.formula.specs.TreeLaws.{AllBetween, Named}
+use Rattle.formula.proofs.TreeLaws.{between-as}
 use Rattle.formula.specs.Places.{node_in}
 use Rattle.formula.specs.Kinds.{Kinds, Rule}
 use Rattle.formula.specs.Faults.{faults_below, lowest_of}
-use Rattle.formula.specs.FaultLaws.{faults_at, faults-as}
+use Rattle.formula.specs.FaultLaws.{faults_at}
+use Rattle.formula.proofs.FaultLaws.{faults-as}
 use Rattle.sheet_kinds.specs.Checks.{lesser, own, lowest-append}
 use Rattle.sheet_kinds.specs.Walk.{parted}
 

@@ -18,14 +18,15 @@ use Rattle.formula.specs.declared.Check.{Check}
 use Rattle.formula.specs.declared.Check.TheVariants.{Passed, Fault}
 use Rattle.formula.specs.Sheet.{shape_at}
 use Rattle.formula.specs.Tree.{Exp, Body, ret, exp_node, body_node, exp_of, body_of}
-use Rattle.formula.specs.TreeLaws.{and-true, exp-as, body-as}
+use Rattle.formula.proofs.TreeLaws.{and-true, exp-as, body-as}
 use Rattle.formula.specs.Places.{Node, expression, body, node_in}
 use Rattle.formula.specs.Widths.{wide_e}
 use Rattle.formula.specs.Kinds.{Kinds, bind_kinds, kind_of_constant, kinds_e, returned_kinds, iterated_kinds}
 use Rattle.formula.specs.Faults.{faults_below, lowest_of}
 use Rattle.formula.specs.FaultLaws.{faults_at}
-use Rattle.meaning.specs.WidthLaws.{operator-fits}
-use Rattle.meaning.specs.Rows.{ExpRow, BodyRow, Plain, ending-row, plain-as, exp-children, exp-facts}
+use Rattle.meaning.proofs.WidthLaws.{operator-fits}
+use Rattle.meaning.specs.Rows.{ExpRow, BodyRow, Plain}
+use Rattle.meaning.proofs.Rows.{ending-row, plain-as, exp-children, exp-facts}
 use Rattle.eval_words.specs.Needs.{W}
 use Rattle.sheet_kinds.specs.Checks.{lesser, own, lowest-append}
 use Rattle.sheet_kinds.specs.KindWidths.{counted}

@@ -6,8 +6,10 @@ use Rattle.formula.specs.declared.Shape.{Shape}
 use Rattle.formula.specs.declared.Shape.TheVariants.{Identifier, Constant, Pair, Operator, Let, If, For, Iter}
 use Rattle.formula.specs.Sheet.{shape_at, named_in}
 use Rattle.formula.specs.Tree.{exp_node, exp_of, body_of}
-use Rattle.formula.specs.TreeLaws.{AllBetween, exp-as}
-use Rattle.meaning.specs.Rows.{ExpRow, ExpChildren, exp-children}
+use Rattle.formula.specs.TreeLaws.{AllBetween}
+use Rattle.formula.proofs.TreeLaws.{exp-as}
+use Rattle.meaning.specs.Rows.{ExpRow, ExpChildren}
+use Rattle.meaning.proofs.Rows.{exp-children}
 use Rattle.sheet_movement.specs.Sorts.{is_whole, amount, names_whole, divides_by_whole, code_sort}
 
 -- A row of the table that names only rows before it.

@@ -8,7 +8,8 @@ use Rattle.formula.specs.Sheet.{shape_at}
 use Rattle.formula.specs.Kinds.{Kinds}
 use Rattle.formula.specs.Faults.{lowest_of}
 use Rattle.formula.specs.FaultLaws.{faults_at}
-use Rattle.meaning.specs.Rows.{ExpRow, BodyRow, ExpChildren, BodyChildren, exp-children, body-children, ending-row, Plain}
+use Rattle.meaning.specs.Rows.{ExpRow, BodyRow, ExpChildren, BodyChildren, Plain}
+use Rattle.meaning.proofs.Rows.{exp-children, body-children, ending-row}
 use Rattle.eval_words.specs.Needs.{W, ExpNeeds, BodyNeeds, exp-needs, body-needs}
 use Rattle.sheet_movement.specs.Sorts.{drifting}
 

@@ -13,14 +13,14 @@ use borrow.Author.Tests.{leb-true}
 use Rattle.formula.specs.FaultRows.{Among}
 use Rattle.formula.specs.Sheet.{named_in}
 use Rattle.formula.specs.Tests.{all_between}
-use Rattle.formula.specs.TreeLaws.{and-true}
+use Rattle.formula.proofs.TreeLaws.{and-true}
 use Rattle.sheet_tidied.specs.TextLaws.{Row, row_shape, row_in_range}
 use Rattle.sheet_listed.specs.Small.{modest, small_row, small_rows}
 use Rattle.sheet_listed.specs.Search.{content_at, same_row, place_in, place_of}
-use Rattle.sheet_listed.specs.RowLaws.{listed-row}
-use Rattle.sheet_listed.specs.Ordered.{among-at}
-use Rattle.sheet_listed.specs.Contents.{contents-listed, content-among, loop-row, among-at as at-among}
-use Rattle.sheet_listed.specs.Numbers.{content-number, number_step}
+use Rattle.sheet_listed.proofs.RowLaws.{listed-row}
+use Rattle.sheet_listed.proofs.Ordered.{among-at}
+use Rattle.sheet_listed.proofs.Contents.{contents-listed, content-among, loop-row, among-at as at-among}
+use Rattle.sheet_listed.proofs.Numbers.{content-number, number_step}
 use Rattle.sheet_stands.specs.Fronts.{Content}
 
 kind_at : (k : ℕ) → leb (get_or (content_at k) 0 0) 7 ≡ true

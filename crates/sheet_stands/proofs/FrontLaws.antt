@@ -15,10 +15,12 @@ use Rattle.formula.specs.Tree.{Exp, exp_of}
 use Rattle.formula.specs.Tests.{names_well}
 use Rattle.formula.specs.Widths.{width}
 use Rattle.formula.specs.Free.{free_e}
-use Rattle.formula.specs.TreeLaws.{Named, and-true, all-between}
+use Rattle.formula.specs.TreeLaws.{Named}
+use Rattle.formula.proofs.TreeLaws.{and-true, all-between}
 use Rattle.sheet_listed.specs.Search.{stands_at}
 use Rattle.sheet_listed.specs.Texts.{field_row}
-use Rattle.sheet_listed.specs.Standing.{Agree, field_alike, exp-alike, stands_alike}
+use Rattle.sheet_listed.specs.Standing.{Agree}
+use Rattle.sheet_listed.proofs.Standing.{field_alike, exp-alike, stands_alike}
 use Rattle.sheet_stands.specs.Fronts.{Content, Front}
 
 -- ---- what standing says

@@ -16,10 +16,11 @@ use Rattle.formula.specs.Sheet.{field, shape_of, shape_at, named_in}
 use Rattle.formula.specs.Tree.{Exp, Body, exp_node, exp_of, body_of}
 use Rattle.formula.specs.Places.{expression}
 use Rattle.formula.specs.Tests.{all_between, lowest, names_well, all_named, ranges_well, wide_node, bound_node}
-use Rattle.formula.specs.TestLaws.{each-passed}
+use Rattle.formula.proofs.TestLaws.{each-passed}
 use Rattle.formula.specs.Widths.{width, wide_e}
 use Rattle.formula.specs.Free.{free_e, bound_e}
-use Rattle.formula.specs.TreeLaws.{AllBetween, all-between, exp-at}
+use Rattle.formula.specs.TreeLaws.{AllBetween}
+use Rattle.formula.proofs.TreeLaws.{all-between, exp-at}
 use Rattle.sheet_tables.specs.Nodes.{Holds}
 use Rattle.sheet_tables.specs.Widths.{widths_by, well_by}
 use Rattle.sheet_tables.specs.Masks.{plain_mask, bound_by, Ranged}

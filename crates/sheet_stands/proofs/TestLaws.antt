@@ -14,19 +14,20 @@ use Rattle.formula.specs.declared.Verdict.TheVariants.{Passed as passed, Refused
 use Rattle.formula.specs.Sheet.{row_count, fields_of, field, shape_at, named_in}
 use Rattle.formula.specs.Places.{places_of}
 use Rattle.formula.specs.Tests.{lowest, is-passed, ranges_well, names_well, all_named, named_once, placed_well, widths_well, bound_well, after_check, verdict_by, row_tests, formula_tests, sheet_of}
-use Rattle.formula.specs.SheetLaws.{fields-length}
-use Rattle.formula.specs.TestLaws.{each-passed}
+use Rattle.formula.proofs.SheetLaws.{fields-length}
+use Rattle.formula.proofs.TestLaws.{each-passed}
 use Rattle.formula.specs.TreeLaws.{AllBetween}
-use Rattle.formula.specs.Verdicts.{then, then-behind}
+use Rattle.formula.specs.Verdicts.{then}
+use Rattle.formula.proofs.Verdicts.{then-behind}
 use Rattle.sheet_rows.specs.Tallies.{tallied}
 use Rattle.sheet_rows.proofs.RowLaws.{and-true-last, named_by, tallied-row}
 use Rattle.sheet_read.specs.Reading.{row_verdict}
-use Rattle.sheet_tidied.specs.Rowwise.{passes-rowwise, rowwise-passes}
+use Rattle.sheet_tidied.proofs.Rowwise.{passes-rowwise, rowwise-passes}
 use Rattle.sheet_tidy.proofs.KeptLaws.{between-wider}
 use Rattle.sheet_listed.specs.Small.{is_passed, modest, modest_row, passes_nine, is_small}
 use Rattle.sheet_listed.specs.Search.{once_each}
-use Rattle.sheet_listed.specs.Texts.{small-has}
-use Rattle.sheet_listed.specs.Passing.{not-small}
+use Rattle.sheet_listed.proofs.Texts.{small-has}
+use Rattle.sheet_listed.proofs.Passing.{not-small}
 use Rattle.sheet_stands.specs.Tests.{all_once, formula_passes, tables_pass}
 
 pub is-well : (c : Check) → is-passed c ≡ true → c ≡ Passed

@@ -19,7 +19,8 @@ use Rattle.formula.specs.Places.{Node, expression, body, bodies_in, is_in_body}
 use Rattle.formula.specs.Tests.{occurrences}
 use Rattle.formula.specs.Count.{returns, iterates}
 use Rattle.formula.specs.TreeLaws.{AllBetween, Named}
-use Rattle.formula.specs.PlaceLaws.{Sound, bodies-between, bodies-named, occurs-not, only-namer}
+use Rattle.formula.specs.PlaceLaws.{Sound}
+use Rattle.formula.proofs.PlaceLaws.{bodies-between, bodies-named, occurs-not, only-namer}
 use Rattle.sheet_tables.specs.Nodes.{node_at, Holds}
 use Rattle.sheet_tables.specs.Ready.{Ready}
 use Rattle.sheet_tables.specs.Ends.{arms_end, ends_of, ends_in, ends_by}

@@ -18,7 +18,8 @@ use Rattle.formula.specs.Tree.{Exp, Body, exp_node, body_node, exp_of, body_of}
 use Rattle.formula.specs.Places.{Node, expression, body, node_in, is_in_body}
 use Rattle.formula.specs.Free.{free_e, free_b, covers, bound_e, bound_b}
 use Rattle.formula.specs.Tests.{bound_node, bound_well, in_range, ranges_well, binds_well}
-use Rattle.formula.specs.TreeLaws.{AllBetween, and-true}
+use Rattle.formula.specs.TreeLaws.{AllBetween}
+use Rattle.formula.proofs.TreeLaws.{and-true}
 use Rattle.sheet_tables.specs.Nodes.{node_at, free_in, Holds}
 use Rattle.sheet_tables.specs.Ready.{Ready}
 use Rattle.sheet_tables.specs.Masks.{trigger_mask, range_mask, outside, plain_mask, is_returned, mask_by, missing, bound_by, Ranged}

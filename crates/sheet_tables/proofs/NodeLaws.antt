@@ -14,8 +14,9 @@ use Rattle.formula.specs.Sheet.{shape_at, named_in}
 use Rattle.formula.specs.Tree.{Exp, Body, exp_node, body_node, exp_of, body_of}
 use Rattle.formula.specs.Places.{Node, expression, body, node_in, is_in_body, places_of}
 use Rattle.formula.specs.Tests.{is_iter, placed_well}
-use Rattle.formula.specs.TreeLaws.{exp-at, body_at}
-use Rattle.formula.specs.PlaceLaws.{Sound, field_places, places-named, places-length}
+use Rattle.formula.proofs.TreeLaws.{exp-at, body_at}
+use Rattle.formula.specs.PlaceLaws.{Sound, field_places}
+use Rattle.formula.proofs.PlaceLaws.{places-named, places-length}
 use Rattle.sheet_tables.specs.Nodes.{node_at, Holds}
 use Rattle.sheet_tables.specs.Ready.{Ready}
 

@@ -14,7 +14,8 @@ use Rattle.formula.specs.Places.{Node, expression, body, node_in, is_in_body}
 use Rattle.formula.specs.Widths.{width, returned, iterated, fitting_e, fitting_b, wide_e, wide_b}
 use Rattle.formula.specs.Tests.{wide_node, widths_well}
 use borrow.Author.Tests.{leb-true}
-use Rattle.formula.specs.TreeLaws.{AllBetween, and-true}
+use Rattle.formula.specs.TreeLaws.{AllBetween}
+use Rattle.formula.proofs.TreeLaws.{and-true}
 use Rattle.sheet_tables.specs.declared.widths.Widths.{Widths}
 use Rattle.sheet_tables.specs.Nodes.{node_at, returned_in, iterated_in, Holds}
 use Rattle.sheet_tables.specs.Ready.{Ready}

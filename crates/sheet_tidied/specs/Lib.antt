@@ -3,15 +3,8 @@ pub mod Tidy
 pub mod Reach
 pub mod KeptLaws
 pub mod Rowwise
-pub mod NumberLaws
 pub mod TextLaws
 pub mod ShapeLaws
 pub mod Tidied
-pub mod Order
 pub mod FieldTexts
-pub mod Occurring
 pub mod Sixth
-pub mod Stays
-pub mod NamedTwice
-pub mod SameFormula
-pub mod Written

@@ -14,13 +14,13 @@ use Rattle.formula.specs.declared.Refusal.TheVariants.{Memory}
 use Rattle.formula.specs.declared.Verdict.TheVariants.{Passed, Refused}
 use Rattle.formula.specs.Refusals.{number_of}
 use Rattle.formula.specs.Sheet.{row_count, fields_of}
-use Rattle.formula.specs.Acceptance.{low-row}
+use Rattle.formula.proofs.Acceptance.{low-row}
 use Rattle.sheet_read.specs.Reading.{row_verdict}
 use Rattle.sheet_read.proofs.ReadLaws.{rows-refuse}
 use Rattle.sheet_tidied.specs.Text.{sheet_text}
 use Rattle.sheet_tidied.specs.Tidy.{new_rows, tidied, tidy_need, most_sheet_bytes}
 use Rattle.sheet_tidied.specs.Rowwise.{Rowwise}
-use Rattle.sheet_tidied.specs.Written.{tidied-fits, written-sets}
+use Rattle.sheet_tidied.proofs.Written.{tidied-fits, written-sets}
 use Rattle.sheet_tidy.specs.Rows.{rows_of}
 use Rattle.sheet_tidy.specs.Tidying.{handed, answers, by_verdict, tidied_into}
 

@@ -9,9 +9,9 @@ use Rattle.formula.specs.Sheet.{shape_at}
 use Rattle.formula.specs.TreeLaws.{AllBetween, Named}
 use Rattle.sheet_tables.specs.Nodes.{Holds}
 use Rattle.sheet_tidied.specs.Tidy.{kept_of, new_number, renamed, new_row}
-use Rattle.sheet_tidied.specs.KeptLaws.{kept-length}
-use Rattle.sheet_tidied.specs.NumberLaws.{number_more, rows-length}
-use Rattle.sheet_tidied.specs.ShapeLaws.{renamed-alike}
+use Rattle.sheet_tidied.proofs.KeptLaws.{kept-length}
+use Rattle.sheet_tidied.proofs.NumberLaws.{number_more, rows-length}
+use Rattle.sheet_tidied.proofs.ShapeLaws.{renamed-alike}
 use Rattle.sheet_tidy.specs.Rows.{rows_of}
 
 pub between-wider : (r n : ℕ) (xs : List ℕ) → r ≤ n → AllBetween r xs → AllBetween n xs

@@ -9,12 +9,12 @@ use lib.Seq.{sets, length-sets}
 use Rattle.formula.specs.declared.Shape.{Shape}
 use Rattle.formula.specs.declared.Shape.TheVariants.{Identifier, Constant, Pair, Operator, Let, If, For, Iter}
 use Rattle.formula.specs.Sheet.{shape_at}
-use Rattle.text.specs.PrintLaws.{written_both}
+use Rattle.text.proofs.PrintLaws.{written_both}
 use Rattle.sheet_tidied.specs.Text.{row_text, sheet_text}
 use Rattle.sheet_tidied.specs.Tidy.{is_kept, new_number, renamed, new_row, kept_rows}
-use Rattle.sheet_tidied.specs.NumberLaws.{number-most}
-use Rattle.sheet_tidied.specs.TextLaws.{row-text-length, text-append}
-use Rattle.sheet_tidied.specs.Written.{text-kept, text-dropped}
+use Rattle.sheet_tidied.proofs.NumberLaws.{number-most}
+use Rattle.sheet_tidied.proofs.TextLaws.{row-text-length, text-append}
+use Rattle.sheet_tidied.proofs.Written.{text-kept, text-dropped}
 use Rattle.sheet_tidy.proofs.KeptLaws.{number-kept, number-left}
 
 -- ---- one row

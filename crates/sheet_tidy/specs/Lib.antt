@@ -1,4 +1,3 @@
 pub mod Rows
 pub mod Tidying
-pub mod Twice
 pub mod Outcomes

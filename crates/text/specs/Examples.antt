@@ -20,7 +20,7 @@ pub data Answer : Type 0 where
   reads : SetFile → Answer
   prints : List ℕ → Answer
 
-unfoldable lines : ℕ → List (List ℕ) → List ℕ
+unfoldable pub lines : ℕ → List (List ℕ) → List ℕ
 unfolding result_line
 lines k [] = []
 lines k (r ∷ rs) = result_line k r ++ lines k rs
@@ -35,49 +35,49 @@ pub record Case : Type 0 where
   pub asks : Question
   pub gives : Answer
 
-abbrev case : Question → Answer → Case
+abbrev pub case : Question → Answer → Case
 case q a = record { asks = q; gives = a }
 
 -- Values in the byte form: a tag and four bytes, lowest first.
-abbrev small : ℕ → List ℕ
+abbrev pub small : ℕ → List ℕ
 small n = 1 ∷ n ∷ 0 ∷ 0 ∷ 0 ∷ []
 
-abbrev falsehood : List ℕ
+abbrev pub falsehood : List ℕ
 falsehood = 2 ∷ 0 ∷ 0 ∷ 0 ∷ 0 ∷ []
 
-abbrev truth : List ℕ
+abbrev pub truth : List ℕ
 truth = 2 ∷ 1 ∷ 0 ∷ 0 ∷ 0 ∷ []
 
-abbrev err : List ℕ
+abbrev pub err : List ℕ
 err = 3 ∷ 0 ∷ 0 ∷ 0 ∷ 0 ∷ []
 
-abbrev zero_divisor : List ℕ
+abbrev pub zero_divisor : List ℕ
 zero_divisor = 3 ∷ 1 ∷ 0 ∷ 0 ∷ 0 ∷ []
 
-abbrev out_of_range : List ℕ
+abbrev pub out_of_range : List ℕ
 out_of_range = 3 ∷ 2 ∷ 0 ∷ 0 ∷ 0 ∷ []
 
-abbrev least : List ℕ
+abbrev pub least : List ℕ
 least = 1 ∷ 0 ∷ 0 ∷ 0 ∷ 128 ∷ []
 
-abbrev greatest : List ℕ
+abbrev pub greatest : List ℕ
 greatest = 1 ∷ 255 ∷ 255 ∷ 255 ∷ 127 ∷ []
 
 -- Floats by their patterns' bytes: 0, -0, the nearest to 0.3, the least.
-abbrev real : ℕ → ℕ → ℕ → ℕ → List ℕ
+abbrev pub real : ℕ → ℕ → ℕ → ℕ → List ℕ
 real a b c d = 4 ∷ a ∷ b ∷ c ∷ d ∷ []
 
-abbrev zeros : List ℕ
+abbrev pub zeros : List ℕ
 zeros = real 0 0 0 0 ++ real 0 0 0 128
 
-abbrev three-tenths : List ℕ
+abbrev pub three-tenths : List ℕ
 three-tenths = real 154 153 153 62
 
-abbrev least_real : List ℕ
+abbrev pub least_real : List ℕ
 least_real = real 255 255 127 255
 
 -- "places past the width hold err"
-unfoldable errs : ℕ → List ℕ
+unfoldable pub errs : ℕ → List ℕ
 errs zero = []
 errs (suc n) = err ++ errs n
 
@@ -132,7 +132,3 @@ cases =
     ∷ case (reading "R" "R4294967296\n") (reads (bad_line 1))
     ∷ case (refusing 12 3) (prints (bytes "    12     3\n"))
     ∷ []
-
-pub cases-worked : map (λ c. got c.asks) cases ≡ map (λ c. c.gives) cases
-unfolding cases got of_bits to_bits fits
-cases-worked = refl

@@ -2,10 +2,7 @@ pub mod Printed
 pub mod Fields
 pub mod SetLines
 pub mod Scan
-pub mod PrintLaws
-pub mod FieldLaws
 pub mod SetLineLaws
 pub mod ScanLaws
-pub mod ValueBytes
 pub mod RoundTrip
 pub mod Examples

@@ -1,8 +1,6 @@
 -- What is told beforehand of the values on a link of the machine (document 02, Job 6): a kind or err; only true; only errs. And which
 -- claims the links of an operator must have for its firings to keep them, gate by gate (network/specs/Rules). Assumes nothing.
 use Rattle.std.specs.Prelude.{ℕ, ◌≡◌, refl, ◌⊎◌, true, false, [], ◌∷◌}
-use Rattle.std.proofs.Common.{sym, ap}
-use Rattle.std.proofs.lemmas.Bool.{false≢true}
 use Rattle.std.proofs.Math.Option.{Option, none, some}
 use Rattle.value.specs.declared.Value.{Value}
 use Rattle.value.specs.declared.ValueKind.{ValueKind}
@@ -34,27 +32,11 @@ truths = of-kind truth-kind
 abbrev pub Truthlike : Claim → Type 0
 Truthlike c = Under c truths
 
-pub err-only : Meets only-err err-value
-err-only k = refl
-
-pub errs-under : (k : ValueKind) → Under only-err (of-kind k)
-errs-under k v h = h k
-
 -- What a register may hold: it counts as err before the first firing, so it is never only true.
 abbrev pub storable : Claim → Claim
 storable (of-kind k) = of-kind k
 storable only-true = truths
 storable only-err = only-err
-
-pub err-stored : (c : Claim) → Meets (storable c) err-value
-err-stored (of-kind k) = refl
-err-stored only-true = refl
-err-stored only-err = err-only
-
-pub storable-same : (c : Claim) → Meets c err-value → storable c ≡ c
-storable-same (of-kind k) m = refl
-storable-same only-true m = absurd (false≢true (sym (ap (suits whole-kind) m)))
-storable-same only-err m = refl
 
 -- The claims of an operator's links: of its inputs, of its outputs where they have a link, and of its register; and what a constant holds.
 pub record Sides : Type 0 where

@@ -6,7 +6,7 @@ use Rattle.network.specs.Values.{err-value}
 use Rattle.network.specs.Rules.{constant, operator, T-gate, F-gate, M-gate, E-gate, IC-gate, Register}
 use Rattle.graph.specs.Assembly.{Gate, const, oper, T, F, M, E, IC, Graph, wire, nothing, beside, bind, gate, loop, free, member_of, gate_outputs}
 use Rattle.graph.specs.Fit.{gate_inputs}
-use Rattle.theory_claims.specs.Claims.{Claim, only-err, Meets, truths, Sides, Fits, Claims}
+use Rattle.theory_claims.specs.Claims.{Claim, only-err, truths, Sides, Fits, Claims}
 
 -- The claims of a list of names.
 abbrev pub claims_of : Claims → List ℕ → List Claim
@@ -37,15 +37,3 @@ Typed-gate g is os = (length is ≡ gate_inputs g) × (length os ≡ gate_output
 -- Where names are bound, the others keep their claims.
 abbrev pub Binds-only : List ℕ → Claims → Claims → Type 0
 Binds-only ns C D = (x : ℕ) → member_of ns x ≡ false → D x ≡ C x
-
--- A graph with the claims of its names and those of its outputs.
-abbrev pub Typed : Graph → Claims → List Claim → Type 0
-Typed (wire x) C cs = cs ≡ C x ∷ []
-Typed nothing C cs = cs ≡ []
-Typed (beside a b) C cs = (is : List Claim) × (os : List Claim) × (cs ≡ is ++ os) × Typed a C is × Typed b C os
-Typed (bind ns a b) C cs = (D : Claims) × Binds-only ns C D × Typed a C (claims_of D ns) × Typed b D cs
-Typed (gate g a) C cs = (is : List Claim) × Typed a C is × Typed-gate g is cs
--- "loop rounds must agree": a round starts the next with values of the claims that it began with. Each of a loop's names may be an err.
-Typed (loop ns a b) C cs =
-    (D : Claims) × Binds-only ns C D × ((x : ℕ) → free b x ≡ true → Meets (D x) err-value)
-    × Typed a C (claims_of D ns) × Typed b D (truths ∷ (claims_of D ns ++ cs))

@@ -2,7 +2,6 @@
 -- the first and the operators fire in another order; both end at rest, and each of the 8 operators has fired twice. So what SameFirings assumes can be met. And
 -- "every pushed set is taken" is needed: at capacity 1 with no take nothing can fire, and the last operator has fired once.
 use Rattle.std.specs.Prelude.{ℕ, ◌≡◌, refl, List, [], ◌∷◌, map, pos}
-use Rattle.std.proofs.Math.Decide.{dec_lt, ℕ_discrete}
 use Rattle.value.specs.declared.Value.{Value}
 use Rattle.value.specs.declared.Value.TheVariants.{Whole}
 use Rattle.value.specs.Operators.{apply}
@@ -14,72 +13,25 @@ use Rattle.theory_reference.specs.Marks.{marks}
 use Rattle.theory_wiring.specs.LesserOfTwo.{lesser_of_two}
 use Rattle.theory_verdicts.specs.Running.{both, dec_room, dec_able, Call, pushes, fires, runs, takes, steps_from, history, standing, pushed}
 use Rattle.theory_rounds.specs.InTurn.{fires_from, times}
-use Rattle.theory_rounds.specs.EarlyEnd.{still-after-round}
-use Rattle.theory_firings.specs.SameFirings.{AtRest}
 
-abbrev first_set : List Value
+abbrev pub first_set : List Value
 first_set = Whole (pos 3) ∷ Whole (pos 5) ∷ []
 
-abbrev second_set : List Value
+abbrev pub second_set : List Value
 second_set = err ∷ Whole (pos 2) ∷ []
 
 -- One set after the other.
-abbrev one_by_one : List Call
+abbrev pub one_by_one : List Call
 one_by_one = pushes first_set ∷ runs 30 ∷ takes ∷ pushes second_set ∷ runs 30 ∷ takes ∷ []
 
 -- The second set is pushed before the first is worked off; a fire and a take are refused.
-abbrev close_behind : List Call
+abbrev pub close_behind : List Call
 close_behind = pushes first_set ∷ fires 1 ∷ fires 0 ∷ fires 7 ∷ runs 2 ∷ pushes second_set ∷ fires 1 ∷ takes ∷ runs 30 ∷ takes ∷ takes ∷ []
 
 -- How often each of the 8 operators fires.
-abbrev firings_of : ℕ → List Call → List ℕ
+abbrev pub firings_of : ℕ → List Call → List ℕ
 firings_of capacity calls = map (λ (i : ℕ). times i (history lesser_of_two capacity calls)) (0 ∷ 1 ∷ 2 ∷ 3 ∷ 4 ∷ 5 ∷ 6 ∷ 7 ∷ [])
 
-pub one-by-one-sets : pushed lesser_of_two 1 one_by_one ≡ first_set ∷ second_set ∷ []
-unfolding steps_from made_of dec_able both dec_lt marks dec_room capacities ℕ_discrete append pop apply
-one-by-one-sets = refl
-
-pub close-behind-sets : pushed lesser_of_two 2 close_behind ≡ first_set ∷ second_set ∷ []
-unfolding steps_from made_of dec_able both dec_lt marks dec_room capacities ℕ_discrete append pop apply
-close-behind-sets = refl
-
-one-by-one-still : steps_from lesser_of_two 1 (fires_from 8 0) (standing lesser_of_two 1 one_by_one) ≡ []
-unfolding steps_from made_of dec_able both dec_lt marks dec_room capacities ℕ_discrete append pop apply
-one-by-one-still = refl
-
-close-behind-still : steps_from lesser_of_two 2 (fires_from 8 0) (standing lesser_of_two 2 close_behind) ≡ []
-unfolding steps_from made_of dec_able both dec_lt marks dec_room capacities ℕ_discrete append pop apply
-close-behind-still = refl
-
-pub one-by-one-rests : AtRest lesser_of_two 1 one_by_one
-unfolding steps_from made_of dec_able both dec_lt marks dec_room capacities ℕ_discrete append pop apply
-one-by-one-rests = record { still = still-after-round lesser_of_two 1 (standing lesser_of_two 1 one_by_one) one-by-one-still; all-taken = refl }
-
-pub close-behind-rests : AtRest lesser_of_two 2 close_behind
-unfolding steps_from made_of dec_able both dec_lt marks dec_room capacities ℕ_discrete append pop apply
-close-behind-rests = record { still = still-after-round lesser_of_two 2 (standing lesser_of_two 2 close_behind) close-behind-still; all-taken = refl }
-
-pub fired-one-by-one : firings_of 1 one_by_one ≡ 2 ∷ 2 ∷ 2 ∷ 2 ∷ 2 ∷ 2 ∷ 2 ∷ 2 ∷ []
-unfolding steps_from made_of dec_able both dec_lt marks dec_room capacities ℕ_discrete append pop apply
-fired-one-by-one = refl
-
-pub fired-close-behind : firings_of 2 close_behind ≡ 2 ∷ 2 ∷ 2 ∷ 2 ∷ 2 ∷ 2 ∷ 2 ∷ 2 ∷ []
-unfolding steps_from made_of dec_able both dec_lt marks dec_room capacities ℕ_discrete append pop apply
-fired-close-behind = refl
-
 -- ---- not every pushed set is taken
-
-abbrev none_taken : List Call
+abbrev pub none_taken : List Call
 none_taken = pushes first_set ∷ runs 30 ∷ pushes second_set ∷ runs 30 ∷ []
-
-pub none-taken-sets : pushed lesser_of_two 1 none_taken ≡ first_set ∷ second_set ∷ []
-unfolding steps_from made_of dec_able both dec_lt marks dec_room capacities ℕ_discrete append pop apply
-none-taken-sets = refl
-
-pub none-taken-still : steps_from lesser_of_two 1 (fires_from 8 0) (standing lesser_of_two 1 none_taken) ≡ []
-unfolding steps_from made_of dec_able both dec_lt marks dec_room capacities ℕ_discrete append pop apply
-none-taken-still = refl
-
-pub fired-none-taken : firings_of 1 none_taken ≡ 2 ∷ 2 ∷ 2 ∷ 2 ∷ 2 ∷ 2 ∷ 2 ∷ 1 ∷ []
-unfolding steps_from made_of dec_able both dec_lt marks dec_room capacities ℕ_discrete append pop apply
-fired-none-taken = refl

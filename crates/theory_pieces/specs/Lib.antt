@@ -1,16 +1,10 @@
 -- The root of the specs.
 pub mod Load
 pub mod Goes
-pub mod LateNets
 pub mod Gate
 pub mod Piece
 pub mod Rows
 pub mod LoadSets
 pub mod Sets
 pub mod Demand3
-pub mod Made
 pub mod Tape
-pub mod Calls
-pub mod Alone
-pub mod RoundsReady
-pub mod Wiring

@@ -2,7 +2,6 @@
 -- is empty; with the set untaken nothing can fire either, and its result waits on the last link. "for x1 = x0 do if x1 then iter x1 else x1", at rest with its
 -- set taken, has a false on the control links of its two gates: it must be without for.
 use Rattle.std.specs.Prelude.{◌≡◌, refl, false, List, [], ◌∷◌, map, pos}
-use Rattle.std.proofs.Math.Decide.{dec_lt, ℕ_discrete}
 use Rattle.value.specs.declared.Value.TheVariants.{Whole, Truth}
 use Rattle.value.specs.Operators.{apply}
 use Rattle.network.specs.Net.{Token, val, pop, append}
@@ -15,62 +14,21 @@ use Rattle.theory_reference.specs.Marks.{marks}
 use Rattle.theory_wiring.specs.LesserOfTwo.{lesser_of_two}
 use Rattle.theory_verdicts.specs.Running.{both, dec_room, dec_able, Call, pushes, runs, takes, steps_from, standing}
 use Rattle.theory_rounds.specs.InTurn.{fires_from}
-use Rattle.theory_rounds.specs.EarlyEnd.{still-after-round}
 use Rattle.theory_firings.specs.SameFirings.{AtRest}
 
 -- What waits on each link of the graph, at capacity 1.
-abbrev waiting : Exp → List Call → List (List Token)
+abbrev pub waiting : Exp → List Call → List (List Token)
 waiting x calls = map (standing x 1 calls) (up_from 0 (made_of x).links)
 
-abbrev untaken : List Call
+abbrev pub untaken : List Call
 untaken = pushes (Whole (pos 3) ∷ Whole (pos 5) ∷ []) ∷ runs 30 ∷ []
 
-abbrev all_taken : List Call
+abbrev pub all_taken : List Call
 all_taken = pushes (Whole (pos 3) ∷ Whole (pos 5) ∷ []) ∷ runs 30 ∷ takes ∷ []
 
-all-taken-still : steps_from lesser_of_two 1 (fires_from 8 0) (standing lesser_of_two 1 all_taken) ≡ []
-unfolding steps_from made_of dec_able both dec_lt marks dec_room capacities ℕ_discrete append pop apply set_link
-all-taken-still = refl
-
-pub all-taken-rests : AtRest lesser_of_two 1 all_taken
-unfolding steps_from made_of dec_able both dec_lt marks dec_room capacities ℕ_discrete append pop apply set_link
-all-taken-rests = record { still = still-after-round lesser_of_two 1 (standing lesser_of_two 1 all_taken) all-taken-still; all-taken = refl }
-
-pub all-taken-empty : waiting lesser_of_two all_taken ≡ [] ∷ [] ∷ [] ∷ [] ∷ [] ∷ [] ∷ [] ∷ [] ∷ [] ∷ [] ∷ [] ∷ [] ∷ [] ∷ [] ∷ []
-unfolding steps_from made_of dec_able both dec_lt marks dec_room capacities ℕ_discrete append pop apply set_link up_from
-all-taken-empty = refl
-
--- ---- a set untaken
-
-pub untaken-still : steps_from lesser_of_two 1 (fires_from 8 0) (standing lesser_of_two 1 untaken) ≡ []
-unfolding steps_from made_of dec_able both dec_lt marks dec_room capacities ℕ_discrete append pop apply set_link
-untaken-still = refl
-
-pub untaken-waits : standing lesser_of_two 1 untaken 13 ≡ val (Whole (pos 3)) ∷ []
-unfolding steps_from made_of dec_able both dec_lt marks dec_room capacities ℕ_discrete append pop apply set_link
-untaken-waits = refl
-
 -- ---- a loop
-
-abbrev a_loop : Exp
+abbrev pub a_loop : Exp
 a_loop = for_e 1 1 (identifier 0) (if_b (identifier 1) (iter (identifier 1)) (ret (identifier 1)))
 
-abbrev loop_taken : List Call
+abbrev pub loop_taken : List Call
 loop_taken = pushes (Truth false ∷ []) ∷ runs 30 ∷ takes ∷ []
-
-loop-still : steps_from a_loop 1 (fires_from 18 0) (standing a_loop 1 loop_taken) ≡ []
-unfolding steps_from made_of dec_able both dec_lt marks dec_room capacities ℕ_discrete append pop apply set_link
-loop-still = refl
-
-pub loop-rests : AtRest a_loop 1 loop_taken
-unfolding steps_from made_of dec_able both dec_lt marks dec_room capacities ℕ_discrete append pop apply set_link
-loop-rests = record { still = still-after-round a_loop 1 (standing a_loop 1 loop_taken) loop-still; all-taken = refl }
-
--- The controls are the last two of 29 links.
-pub loop-links : (made_of a_loop).links ≡ 29
-unfolding made_of
-loop-links = refl
-
-pub loop-controls : map (standing a_loop 1 loop_taken) (26 ∷ 27 ∷ 28 ∷ []) ≡ [] ∷ (val (Truth false) ∷ []) ∷ (val (Truth false) ∷ []) ∷ []
-unfolding steps_from made_of dec_able both dec_lt marks dec_room capacities ℕ_discrete append pop apply set_link
-loop-controls = refl

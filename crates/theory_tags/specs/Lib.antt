@@ -1,2 +1,1 @@
-pub mod LooplessRows
 pub mod PlainGraphs

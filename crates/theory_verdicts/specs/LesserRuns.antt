@@ -1,7 +1,6 @@
 -- Document 01's example, the lesser of two, run on the abstract machine at capacity 1: the sets (3, 5) and (E, 2) travel the graph at once and give 3
 -- and E; a set of one value, a push onto full links and a take too early or too many are refused. So the calls of Running accept what they should.
 use Rattle.std.specs.Prelude.{◌≡◌, refl, List, [], ◌∷◌, pos}
-use Rattle.std.proofs.Math.Decide.{dec_lt, ℕ_discrete}
 use Rattle.value.specs.declared.Value.{Value}
 use Rattle.value.specs.declared.Value.TheVariants.{Whole}
 use Rattle.value.specs.Operators.{apply}
@@ -11,12 +10,12 @@ use Rattle.network.specs.Ends.{capacities}
 use Rattle.graph.specs.Translation.{made_of}
 use Rattle.theory_reference.specs.Marks.{marks}
 use Rattle.theory_wiring.specs.LesserOfTwo.{lesser_of_two}
-use Rattle.theory_verdicts.specs.Running.{both, dec_room, dec_able, Call, pushes, fires, runs, takes, steps_from, pushed, taken}
+use Rattle.theory_verdicts.specs.Running.{Call, pushes, fires, runs, takes}
 
-abbrev first_set : List Value
+abbrev pub first_set : List Value
 first_set = Whole (pos 3) ∷ Whole (pos 5) ∷ []
 
-abbrev second_set : List Value
+abbrev pub second_set : List Value
 second_set = err ∷ Whole (pos 2) ∷ []
 
 abbrev pub mixed_calls : List Call
@@ -34,11 +33,3 @@ mixed_calls =
     ∷ takes
     ∷ takes
     ∷ []
-
-pub lesser-pushed : pushed lesser_of_two 1 mixed_calls ≡ first_set ∷ second_set ∷ []
-unfolding steps_from made_of dec_able both dec_lt marks dec_room capacities ℕ_discrete append pop apply
-lesser-pushed = refl
-
-pub lesser-taken : taken lesser_of_two 1 mixed_calls ≡ (val (Whole (pos 3)) ∷ []) ∷ (val err ∷ []) ∷ []
-unfolding steps_from made_of dec_able both dec_lt marks dec_room capacities ℕ_discrete append pop apply
-lesser-taken = refl

@@ -3,9 +3,7 @@ pub mod Results
 pub mod Owed
 pub mod CutOwed
 pub mod Running
-pub mod RunningLaws
 pub mod RunLaws
-pub mod Verdicts
 pub mod ResultSets
 pub mod LesserRuns
 pub mod BehindEndless

@@ -1,7 +1,6 @@
 -- What direct evaluation yields for a set (document 01, "Running": "Direct evaluation there is the meaning above with as many rounds as it needs, and
 -- ends if some number is enough"). Rests on meaning/specs/Meaning; assumes nothing.
 use Rattle.std.specs.Prelude.{ℕ, ◌≡◌, refl, List, [], ◌∷◌}
-use Rattle.std.proofs.Common.{sym, ap, subst}
 use Rattle.std.proofs.Math.Option.{Option, none, some}
 use Rattle.value.specs.declared.Value.{Value}
 use Rattle.formula.specs.Tree.{Exp}
@@ -22,22 +21,13 @@ abbrev pub EndsWith : Exp → List Value → List Value → Type 0
 EndsWith x v r = (rounds : ℕ) × (result_of x v rounds ≡ some r)
 
 -- ---- an outcome by its values
-
-abbrev Is-some : {A : Type 0} → Option A → Type 0
+abbrev pub Is-some : {A : Type 0} → Option A → Type 0
 Is-some none = ⊥
 Is-some (some a) = Unit {0}
 
-abbrev or_else : {A : Type 0} → A → Option A → A
+abbrev pub or_else : {A : Type 0} → A → Option A → A
 or_else a none = a
 or_else a (some b) = b
-
-pub values-some : (o : Outcome) (r : List Value) → values_of o ≡ some r → (left : ℕ) × (o ≡ yields r left)
-values-some (yields vs left) r e = (left, ap (λ (w : List Value). yields w left) (ap (or_else r) e))
-values-some Outcome.unfinished r e = absurd (subst Is-some (sym e) tt)
-
-pub values-none : (o : Outcome) → values_of o ≡ none → o ≡ Outcome.unfinished
-values-none (yields vs left) e = absurd (subst Is-some e tt)
-values-none Outcome.unfinished e = refl
 
 -- Each set of a list ends, with these results.
 abbrev pub EachEnds : Exp → List (List Value) → List (List Value) → Type 0

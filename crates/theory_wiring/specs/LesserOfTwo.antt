@@ -11,30 +11,6 @@ use Rattle.examples.specs.Sheets.{bytes, lesser}
 abbrev pub lesser_of_two : Exp
 lesser_of_two = if_e (operator 6 (pair (identifier 0) (identifier 1))) (identifier 0) (identifier 1)
 
-pub lesser-sheet : formula_of (bytes lesser) ≡ lesser_of_two
-unfolding formula_of bytes lesser
-lesser-sheet = refl
-
 -- an operator with its inputs and its one output
-abbrev plain : Kind → List ℕ → ℕ → Operator
+abbrev pub plain : Kind → List ℕ → ℕ → Operator
 plain k ins out = made k none ins (some out) none none
-
-pub lesser-graph : made_of lesser_of_two
-    ≡ record {
-      operators =
-          copy_of 0 2 3
-          ∷ copy_of 1 4 5
-          ∷ plain (operatorKind 6) (2 ∷ 4 ∷ []) 6
-          ∷ copy_of 6 7 8
-          ∷ plain T-gate (7 ∷ 3 ∷ []) 9
-          ∷ copy_of 8 10 11
-          ∷ plain F-gate (10 ∷ 5 ∷ []) 12
-          ∷ plain M-gate (11 ∷ 9 ∷ 12 ∷ []) 13
-          ∷ [];
-      links = 14;
-      inputs = 2;
-      triggered = false;
-      results = 13 ∷ [];
-    }
-unfolding made_of nth
-lesser-graph = refl

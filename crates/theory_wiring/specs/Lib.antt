@@ -1,17 +1,12 @@
 pub mod Tally
 pub mod Links
-pub mod Conservation
 pub mod Wiring
 pub mod Ports
 pub mod PortedGraphs
 pub mod Machine
-pub mod Twins
 pub mod AtRest
 pub mod Counts
 pub mod RowCounts
-pub mod ChoiceCounts
 pub mod JoinCounts
-pub mod FormulaCounts
 pub mod MadeGraph
-pub mod MadeTwins
 pub mod LesserOfTwo

@@ -3,7 +3,7 @@ use native.Mathlib.Omega.{arith}
 use mathlib.Core.Path.{refl}
 use mir.Syntax.{w32}
 use mir.Facts.{to_z_pos}
-use Rattle.formula.specs.Constants.{most-bounded}
+use Rattle.formula.proofs.Constants.{most-bounded}
 use Rattle.formula.proofs.constant.Goals as goal
 
 pub returns-then-kind-eq-TRUTH : goal.returns-then-kind-eq-TRUTH

@@ -5,7 +5,7 @@ use native.Mathlib.Omega.{arith}
 use lib.ListN.{length, drop, replicate, length-append}
 use lib.Seq.{sets, drop-length}
 use Rattle.text.specs.Printed.{number_field, refusal_line}
-use Rattle.text.specs.PrintLaws.{number-length, refusal-length, written-part, written_both}
+use Rattle.text.proofs.PrintLaws.{number-length, refusal-length, written-part, written_both}
 use Rattle.log_runs.specs.Lines.{line_of}
 use Rattle.log_runs.proofs.line.Goals as goal
 

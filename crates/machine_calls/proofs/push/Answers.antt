@@ -1,6 +1,7 @@
 use native.Mathlib.Omega.{arith}
 use borrow.Author.Tests.{lt-ltb, le-ltb}
-use Rattle.value_sets.specs.Sets.{set-length, set_ok}
+use Rattle.value_sets.proofs.Sets.{set-length}
+use Rattle.value_sets.specs.Sets.{set_ok}
 use mathlib.Core.Path.{◌≡◌, sym, ◌∙◌, refl, ap}
 use Prim.Native.Nat.{◌+◌, ◌-◌}
 use mathlib.Core.Bool.{true, false}

@@ -7,7 +7,7 @@ use Rattle.formula.specs.declared.Verdict.{Verdict}
 use Rattle.formula.specs.Tree.{formula_of}
 use Rattle.formula.specs.Widths.{width}
 use Rattle.formula.specs.Faults.{letters_of}
-use Rattle.formula.specs.Acceptance.{accepted-passed, rejected-refused}
+use Rattle.formula.proofs.Acceptance.{accepted-passed, rejected-refused}
 use Rattle.machine_log.specs.CheckedLaws.{log_verdict, opened_by, letters-read, width_read, inputs_in_lem, inputs-few, opening-lent, opening-sheet, opening-log}
 use Rattle.machine_log.proofs.open_log.Goals as goal
 

@@ -2,7 +2,7 @@ use mathlib.Core.Path.{◌≡◌, sym, ◌∙◌, refl}
 use mathlib.Core.Bool.{true, false}
 use Rattle.value.specs.Bytes.{word_or}
 use Rattle.machine_layout.specs.Layout.{kind_byte}
-use Rattle.machine_gates.specs.Tables.{decide-FS}
+use Rattle.machine_gates.proofs.Tables.{decide-FS}
 use Rattle.machine_firing.specs.Fire.{register_of, decision_from, plan_from, moved_from, able_from}
 use Rattle.machine_firing.specs.Moves.{Done, next_register, input}
 use Rattle.machine_firing.specs.MoveLaws.{moved-register, completed}

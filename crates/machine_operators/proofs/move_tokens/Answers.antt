@@ -4,8 +4,8 @@ use mathlib.Core.Bool.{false, not}
 use Prim.Native.Nat.{ℕ, suc, ◌≤◌}
 use mathlib.Core.Logic.{inl, inr, ◌≢◌}
 use borrow.Author.Tests.{ne_eqb}
-use Rattle.machine_gates.specs.Tables.{decide-binary, decide-unary, decide-constant, decide-copy, decide_T, decide-F, decide-M, decide-E, decide-IC, decide-FM, decide-none}
-use Rattle.machine_gates.specs.GateLaws.{unary-leaves, binary-leaves, constant-leaves, copy-leaves, T-leaves, F-leaves, M-leaves, E-leaves, IC-leaves, FM-leaves, idle-leaves}
+use Rattle.machine_gates.proofs.Tables.{decide-binary, decide-unary, decide-constant, decide-copy, decide_T, decide-F, decide-M, decide-E, decide-IC, decide-FM, decide-none}
+use Rattle.machine_gates.proofs.GateLaws.{unary-leaves, binary-leaves, constant-leaves, copy-leaves, T-leaves, F-leaves, M-leaves, E-leaves, IC-leaves, FM-leaves, idle-leaves}
 use Rattle.machine_firing.specs.Fire.{register_of}
 use Rattle.machine_firing.specs.Moves.{input, next_register}
 use Rattle.machine_firing.specs.MoveLaws.{moves-idle}

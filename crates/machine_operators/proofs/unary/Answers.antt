@@ -12,7 +12,7 @@ use mathlib.Core.List.{List}
 use Prim.Native.Nat.{ℕ}
 use Rattle.machine_firing.specs.MoveLaws.{moves-idle, gives_one}
 use Rattle.machine_gates.specs.Gates.{unary_by, applied}
-use Rattle.machine_gates.specs.GateLaws.{applied-there}
+use Rattle.machine_gates.proofs.GateLaws.{applied-there}
 use Rattle.machine_operators.proofs.unary.Goals as goal
 
 -- a token that was read is read again from its word

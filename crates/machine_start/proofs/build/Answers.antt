@@ -4,7 +4,7 @@ use Prim.Native.Nat.{◌-◌, ◌*◌}
 use Rattle.sheet_read.specs.Reading.{verdict_in, told-admissible, told-kinded}
 use lib.ListN.{length, take}
 use lib.Seq.{length-take-le}
-use Rattle.formula.specs.Acceptance.{low-row}
+use Rattle.formula.proofs.Acceptance.{low-row}
 use Rattle.formula.specs.Sheet.{row_count}
 use Rattle.formula.specs.Tree.{exp_of, formula_of}
 use Rattle.formula.specs.Tests.{verdict_of}

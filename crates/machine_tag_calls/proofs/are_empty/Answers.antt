@@ -8,7 +8,7 @@ use Rattle.machine_layout.specs.Layout.{link_from}
 use Rattle.machine_planes.specs.Planes.{plane_at}
 use Rattle.machine_valid.specs.Below.{below-zero, below_step, below-fail}
 use Rattle.machine_tags.specs.TagCalls.{empty_link}
-use Rattle.machine_tags.specs.TagLaws.{empty-byte}
+use Rattle.machine_tags.proofs.TagLaws.{empty-byte}
 use Rattle.machine_tag_calls.proofs.are_empty.Goals as goal
 
 pub loop-l-init : goal.loop-l-init

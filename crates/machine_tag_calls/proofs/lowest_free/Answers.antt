@@ -3,7 +3,8 @@ use mathlib.Core.Path.{◌≡◌, sym, ◌∙◌}
 use mathlib.Core.Bool.{Bool, true, false}
 use Prim.Native.Nat.{ℕ, ◌+◌, ◌-◌}
 use native.Mathlib.Decide.{ℕ_discrete}
-use Rattle.machine_tags.specs.Least.{NoneBelow, least_at, least-none}
+use Rattle.machine_tags.specs.Least.{NoneBelow}
+use Rattle.machine_tags.proofs.Least.{least_at, least-none}
 use Rattle.machine_tags.specs.TagCalls.{free_tag, lowest_free}
 use Rattle.machine_tag_calls.proofs.lowest_free.Goals as goal
 

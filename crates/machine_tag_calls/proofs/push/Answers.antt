@@ -5,7 +5,8 @@ use mathlib.Core.Bool.{true, false}
 use mathlib.Core.List.{List}
 use Prim.Native.Nat.{ℕ, ◌+◌, ◌<◌}
 use lib.ListN.{set, length-set}
-use Rattle.value_sets.specs.Sets.{set-length, set_ok}
+use Rattle.value_sets.proofs.Sets.{set-length}
+use Rattle.value_sets.specs.Sets.{set_ok}
 use Rattle.machine_layout.specs.Layout.{stored_kinds}
 use Rattle.machine_calls.specs.Calls.{outcome, answers, triggered_from}
 use Rattle.machine_tags.specs.TagCalls.{tag_standing, lowest_free, tag_pushed_memory}

@@ -7,7 +7,7 @@ use borrow.Author.Tests.{eq-eqb, ne_eqb}
 use Rattle.formula.specs.declared.Check.{Check}
 use Rattle.formula.specs.Sheet.{row_count, fields_of, number_in}
 use Rattle.formula.specs.Tests.{is-passed}
-use Rattle.formula.specs.TestLaws.{starts, goes_on, stops, ends}
+use Rattle.formula.proofs.TestLaws.{starts, goes_on, stops, ends}
 use Rattle.machine_tag_start.specs.TagStart.{for_kind, not_for, has_for}
 use Rattle.machine_tag_start.specs.TagStartLaws.{kind-written}
 use Rattle.machine_tag_start.proofs.has_for.Goals as goal

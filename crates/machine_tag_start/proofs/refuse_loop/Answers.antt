@@ -1,6 +1,6 @@
 use native.Mathlib.Omega.{arith}
 use mathlib.Core.Path.{sym, ap, ◌∙◌}
-use Rattle.formula.specs.Acceptance.{low-row, accepted-passed, rejected-refused}
+use Rattle.formula.proofs.Acceptance.{low-row, accepted-passed, rejected-refused}
 use Rattle.machine_tag_start.specs.TagStart.{loop_answer}
 use Rattle.machine_tag_start.proofs.refuse_loop.Goals as goal
 

@@ -1,7 +1,7 @@
 use Rattle.std.proofs.Common.{◌≡◌, ℕ, replicate, ◌∙◌, append-nil, arith}
 use lib.Seq.{sets}
 use Rattle.text.specs.Printed.{head_line}
-use Rattle.text.specs.PrintLaws.{head-length, written-part}
+use Rattle.text.proofs.PrintLaws.{head-length, written-part}
 use Rattle.next_runs.proofs.line.Goals as goal
 
 -- The line is all that stands there.

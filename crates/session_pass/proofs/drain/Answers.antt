@@ -4,7 +4,7 @@ use mathlib.Core.List.{◌++◌, append-nil}
 use lib.ListN.{length, take, drop}
 use lib.Seq.{sets}
 use Rattle.session.specs.Passes.{taken_from, line_by, Drained, drained_of}
-use Rattle.session.specs.PassLaws.{drain-end, nothing-drained, one-drained, drain-more, no_bytes, behind-written}
+use Rattle.session.proofs.PassLaws.{drain-end, nothing-drained, one-drained, drain-more, no_bytes, behind-written}
 use Rattle.session_pass.proofs.drain.Goals as goal
 
 pub loop-count-init : goal.loop-count-init

@@ -2,7 +2,7 @@ use Prim.Native.Nat.{◌+◌, ◌≤◌}
 use mathlib.Core.Path.{◌≡◌}
 use lib.ListN.{length, drop}
 use Rattle.machine_layout.specs.Layout.{untaken_of}
-use Rattle.session.specs.PassLaws.{DrainedTo}
+use Rattle.session.proofs.PassLaws.{DrainedTo}
 use Rattle.session_pass.proofs.drain.Given as goal
 
 abbrev pub invariant-loop-count : goal.invariant-loop-count

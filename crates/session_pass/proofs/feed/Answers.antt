@@ -6,8 +6,8 @@ use lib.ListN.{length, take, drop, length-drop}
 use lib.Seq.{length-take-le}
 use Rattle.machine_calls.specs.Calls.{Outcome, pushed, outcome}
 use Rattle.text.specs.SetLines.{line_at, is_set_line, field_bytes}
-use Rattle.text.specs.SetLineLaws.{set-line-fits}
-use Rattle.session.specs.FeedLaws.{fed-start, fed-more, fed-stop, fed-bad, fed-end, set-lent}
+use Rattle.text.proofs.SetLineLaws.{set-line-fits}
+use Rattle.session.proofs.FeedLaws.{fed-start, fed-more, fed-stop, fed-bad, fed-end, set-lent}
 use Rattle.session_pass.proofs.feed.Goals as goal
 
 pub loop-next-init : goal.loop-next-init

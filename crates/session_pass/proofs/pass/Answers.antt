@@ -3,9 +3,9 @@ use Prim.Native.Nat.{◌+◌}
 use mathlib.Core.Path.{◌∙◌, ap}
 use lib.ListN.{drop}
 use Rattle.text.specs.Printed.{refusal_line}
-use Rattle.text.specs.PrintLaws.{refusal-length}
-use Rattle.session.specs.PassLaws.{behind-written}
-use Rattle.session.specs.StageLaws.{stage-plain, stage-refused}
+use Rattle.text.proofs.PrintLaws.{refusal-length}
+use Rattle.session.proofs.PassLaws.{behind-written}
+use Rattle.session.proofs.StageLaws.{stage-plain, stage-refused}
 use Rattle.session_pass.proofs.pass.Goals as goal
 
 pub feed-at-requires : goal.feed-at-requires

@@ -6,9 +6,9 @@ use lib.ListN.{length, length-replicate}
 use lib.Seq.{sets}
 use Rattle.machine_calls.specs.Calls.{Handed, handed}
 use Rattle.text.specs.Printed.{result_line}
-use Rattle.text.specs.PrintLaws.{line-length}
+use Rattle.text.proofs.PrintLaws.{line-length}
 use Rattle.session.specs.Passes.{taken_from, line_by}
-use Rattle.session.specs.PassLaws.{take-width, line-handed, line_refused, take-answers}
+use Rattle.session.proofs.PassLaws.{take-width, line-handed, line_refused, take-answers}
 use Rattle.session_pass.proofs.take_line.Goals as goal
 
 pub put_results-requires : goal.put_results-requires

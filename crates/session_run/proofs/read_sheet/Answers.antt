@@ -1,5 +1,5 @@
 use native.Mathlib.Omega.{arith}
-use Rattle.session.specs.Reading.{no-sheet, short-sheet, long-sheet}
+use Rattle.session.proofs.Reading.{no-sheet, short-sheet, long-sheet}
 use Rattle.session_run.proofs.read_sheet.Goals as goal
 
 pub returns-in_default : goal.returns-in_default

@@ -1,7 +1,7 @@
 use native.Mathlib.Omega.{arith}
 use mathlib.Core.Path.{sym, ◌∙◌, refl}
 use lib.Seq.{length-take-le}
-use Rattle.session.specs.Ending.{proceeds-on, comes-on, comes-to-end}
+use Rattle.session.proofs.Ending.{proceeds-on, comes-on, comes-to-end}
 use Rattle.session_run.proofs.repeat.Goals as goal
 
 pub slice_bounds-write_all-end-2 : goal.slice_bounds-write_all-end-2

@@ -6,7 +6,7 @@ use lib.Seq.{length-take-le, take-take}
 use mathlib.Core.Logic.{inl}
 use mathlib.Core.List.{List, [], ◌++◌}
 use Rattle.session.specs.Ending.{Proceeds}
-use Rattle.session.specs.OpeningLaws.{begins-proceeds}
+use Rattle.session.proofs.OpeningLaws.{begins-proceeds}
 use Rattle.session_run.proofs.run.Goals as goal
 
 pub slice_bounds-open-end : goal.slice_bounds-open-end

@@ -1,4 +1,4 @@
-use Rattle.session.specs.Reading.{nothing-more, seen-on}
+use Rattle.session.proofs.Reading.{nothing-more, seen-on}
 use Rattle.session_run.proofs.see_rest.Goals as goal
 
 pub loop-turns-init : goal.loop-turns-init

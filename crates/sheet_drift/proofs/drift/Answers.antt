@@ -2,7 +2,7 @@ use native.Mathlib.Omega.{arith}
 use mathlib.Core.Path.{sym, ap, ◌∙◌}
 use lib.ListN.{length}
 use lib.Seq.{length-take-le}
-use Rattle.formula.specs.Acceptance.{low-row}
+use Rattle.formula.proofs.Acceptance.{low-row}
 use Rattle.sheet_read.specs.Reading.{verdict_in}
 use Rattle.sheet_drift.specs.declared.DriftAnswer.{DriftAnswer}
 use Rattle.sheet_drift.specs.Drifting.{handed}

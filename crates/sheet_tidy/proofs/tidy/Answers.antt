@@ -5,10 +5,10 @@ use Prim.Native.Nat.{ℕ, ◌≤◌}
 use lib.ListN.{length}
 use lib.Seq.{sets}
 use Rattle.formula.specs.Sheet.{row_count}
-use Rattle.formula.specs.SheetLaws.{fields-length}
+use Rattle.formula.proofs.SheetLaws.{fields-length}
 use Rattle.formula.specs.TreeLaws.{Named}
 use Rattle.sheet_tidied.specs.Text.{sheet_text}
-use Rattle.sheet_tidied.specs.Rowwise.{passes-rowwise, naming}
+use Rattle.sheet_tidied.proofs.Rowwise.{passes-rowwise, naming}
 use Rattle.sheet_tidied.specs.Tidy.{tidy_need}
 use Rattle.sheet_tidy.specs.Rows.{rows_of}
 use Rattle.sheet_tidy.proofs.AnswerLaws.{refused-low, memory-short, tests-refuse, room, tests-pass}

@@ -5,7 +5,7 @@ use native.Mathlib.Omega.{arith}
 use lib.ListN.{replicate}
 use lib.Seq.{sets}
 use Rattle.text.specs.Printed.{head_line}
-use Rattle.text.specs.PrintLaws.{head-length, written-part}
+use Rattle.text.proofs.PrintLaws.{head-length, written-part}
 use Rattle.tag_runs.proofs.line.Goals as goal
 
 -- The line is all that stands there.

@@ -1,4 +1,4 @@
-use Rattle.text.specs.PrintLaws.{led-put, led-empty}
+use Rattle.text.proofs.PrintLaws.{led-put, led-empty}
 use lib.ListN.{length}
 use Rattle.text_print.proofs.lead.Goals as goal
 

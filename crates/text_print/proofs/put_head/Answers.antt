@@ -4,7 +4,7 @@ use mathlib.Core.List.{List}
 use lib.ListN.{set, length-set}
 use lib.Seq.{sets}
 use Rattle.text.specs.Printed.{number_field}
-use Rattle.text.specs.PrintLaws.{head-parts}
+use Rattle.text.proofs.PrintLaws.{head-parts}
 use Rattle.text_print.proofs.put_head.Goals as goal
 
 pub shape_of-out : goal.shape_of-out

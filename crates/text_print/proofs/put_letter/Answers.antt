@@ -3,7 +3,7 @@ use Prim.Native.Nat.{ℕ, ◌+◌}
 use mathlib.Core.Path.{◌∙◌, ap}
 use mathlib.Core.List.{List}
 use lib.ListN.{set}
-use Rattle.text.specs.PrintLaws.{spaces-put, letter-parts}
+use Rattle.text.proofs.PrintLaws.{spaces-put, letter-parts}
 use Rattle.text_print.proofs.put_letter.Goals as goal
 
 pub returns : goal.returns

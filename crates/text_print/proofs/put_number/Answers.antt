@@ -1,5 +1,5 @@
 use Rattle.text.specs.Printed.{number_field}
-use Rattle.text.specs.PrintLaws.{number_put}
+use Rattle.text.proofs.PrintLaws.{number_put}
 use Rattle.text_print.proofs.put_number.Goals as goal
 
 pub returns : goal.returns

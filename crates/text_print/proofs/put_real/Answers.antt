@@ -1,7 +1,7 @@
 use Prim.Native.Nat.{◌/◌}
 use mathlib.Core.Path.{sym, ◌∙◌, ap}
 use lib.Seq.{sets}
-use Rattle.text.specs.PrintLaws.{number_put, word-real, word_none}
+use Rattle.text.proofs.PrintLaws.{number_put, word-real, word_none}
 use Rattle.text_print.proofs.put_real.Goals as goal
 
 pub returns-then-is_value : goal.returns-then-is_value

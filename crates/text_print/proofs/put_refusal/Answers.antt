@@ -4,7 +4,7 @@ use mathlib.Core.List.{List}
 use lib.ListN.{set, length-set}
 use lib.Seq.{sets}
 use Rattle.text.specs.Printed.{number_field}
-use Rattle.text.specs.PrintLaws.{refusal-parts}
+use Rattle.text.proofs.PrintLaws.{refusal-parts}
 use Rattle.text_print.proofs.put_refusal.Goals as goal
 
 pub shape_of-out : goal.shape_of-out

@@ -3,7 +3,7 @@ use Prim.Native.Nat.{ℕ, ◌+◌, ◌-◌, ◌*◌}
 use mathlib.Core.Path.{◌≡◌, sym, ◌∙◌, ap, refl}
 use mathlib.Core.List.{List}
 use lib.ListN.{set, length-set}
-use Rattle.text.specs.PrintLaws.{results-none, results-more, results_end}
+use Rattle.text.proofs.PrintLaws.{results-none, results-more, results_end}
 use Rattle.text_print.proofs.put_results.Goals as goal
 
 pub loop-j-init : goal.loop-j-init

@@ -1,6 +1,6 @@
 use mathlib.Core.Path.{sym, ◌∙◌, ap}
 use lib.Seq.{sets}
-use Rattle.text.specs.PrintLaws.{truth-false, truth-true, truth-neither}
+use Rattle.text.proofs.PrintLaws.{truth-false, truth-true, truth-neither}
 use Rattle.text_print.proofs.put_truth.Goals as goal
 
 pub returns-then-bits-eq0 : goal.returns-then-bits-eq0

@@ -2,7 +2,7 @@ use mathlib.Core.Path.{sym, ◌∙◌, ap}
 use lib.Seq.{sets}
 use Rattle.value.specs.declared.Reason.TheVariants.{ZeroDivisor, OutOfRange}
 use Rattle.value.specs.Bytes.{word_of}
-use Rattle.text.specs.PrintLaws.{word-whole, word-truth, word-err, word-other}
+use Rattle.text.proofs.PrintLaws.{word-whole, word-truth, word-err, word-other}
 use Rattle.text_print.proofs.put_value.Goals as goal
 
 pub returns-then-tag-eq-WHOLE : goal.returns-then-tag-eq-WHOLE

@@ -1,7 +1,7 @@
 use Prim.Native.Nat.{◌-◌}
 use mathlib.Core.Path.{sym, ◌∙◌, ap}
 use lib.Seq.{sets}
-use Rattle.text.specs.PrintLaws.{number_put, whole-positive, whole-negative, whole-outside}
+use Rattle.text.proofs.PrintLaws.{number_put, whole-positive, whole-negative, whole-outside}
 use Rattle.text_print.proofs.put_whole.Goals as goal
 
 pub returns-then-bits-lt-FIRST_NEGATIVE : goal.returns-then-bits-lt-FIRST_NEGATIVE

@@ -1,4 +1,4 @@
-use Rattle.text.specs.PrintLaws.{digit-last, digit-more, number-start, shown-none}
+use Rattle.text.proofs.PrintLaws.{digit-last, digit-more, number-start, shown-none}
 use native.Mathlib.Omega.{arith}
 use Prim.Native.Nat.{ℕ, ◌+◌, ◌-◌, ◌%◌, ◌≤◌}
 use mathlib.Core.Path.{◌≡◌, sym, ◌∙◌, ap, refl}

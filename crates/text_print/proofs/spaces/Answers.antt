@@ -3,7 +3,7 @@ use native.Mathlib.Omega.{arith}
 use Prim.Native.Nat.{ℕ, ◌-◌}
 use mathlib.Core.Path.{◌≡◌, sym, ◌∙◌, ap, refl}
 use lib.ListN.{length, replicate, length-set}
-use Rattle.text.specs.PrintLaws.{space-more}
+use Rattle.text.proofs.PrintLaws.{space-more}
 use Rattle.text_print.proofs.spaces.Goals as goal
 
 pub loop-i-init : goal.loop-i-init

@@ -1,7 +1,7 @@
 use native.Mathlib.Omega.{arith}
 use mathlib.Core.Path.{sym, ◌∙◌}
 use Prim.Native.Nat.{◌-◌}
-use Rattle.value_sets.specs.Sets.{later-good, later-bad, later-end, set_long, set-short}
+use Rattle.value_sets.proofs.Sets.{later-good, later-bad, later-end, set_long, set-short}
 use Rattle.value_sets.proofs.is_set.Goals as goal
 
 pub returns-then-set-n : goal.returns-then-set-n

@@ -10,7 +10,8 @@ use Rattle.formula.specs.Sheet.{shape_at}
 use Rattle.formula.specs.Tree.{exp_of, body_of}
 use Rattle.meaning.specs.Meaning.{eval_e, eval_b}
 use Rattle.meaning.specs.Rounds.{turns}
-use Rattle.meaning.specs.Rows.{ExpRow, ExpChildren, BodyChildren, exp-children, body-children, ending-row}
+use Rattle.meaning.specs.Rows.{ExpRow, ExpChildren, BodyChildren}
+use Rattle.meaning.proofs.Rows.{exp-children, body-children, ending-row}
 use Rattle.eval_words.specs.Words.{env_of, zeros-err}
 use Rattle.eval_words.specs.Needs.{W, ExpNeeds, BodyNeeds, exp-needs, body-needs, narrow}
 use Rattle.eval_words.specs.Parts.{Compound, PartOf, Operates, Pairs, wide-compound, one-row, two-rows}

@@ -7,7 +7,7 @@ use Rattle.meaning.specs.Meaning.{eval_e}
 use Rattle.eval_words.specs.Words.{env_of}
 use Rattle.eval_words.specs.Needs.{narrow}
 use Rattle.eval_sheet.specs.Inputs.{Holds, inputs-few}
-use Rattle.value_sets.specs.Sets.{set-length}
+use Rattle.value_sets.proofs.Sets.{set-length}
 use Rattle.eval_sheet.specs.Conclude.{left-within, evaluated-bad, evaluated-good, concluded-short, concluded-left}
 use Rattle.eval_sheet.proofs.row.evaluate_row.Goals as goal
 

@@ -2,7 +2,8 @@ use native.Mathlib.Omega.{arith}
 use Prim.Native.Nat.{◌-◌}
 use mathlib.Core.Path.{refl, sym, ◌∙◌}
 use Rattle.formula.specs.declared.Shape.TheVariants.{Pair}
-use Rattle.meaning.specs.Rows.{ExpChildren, exp-children}
+use Rattle.meaning.specs.Rows.{ExpChildren}
+use Rattle.meaning.proofs.Rows.{exp-children}
 use Rattle.eval_words.proofs.parts.operator_at.Goals as goal
 
 pub width_at-requires-2 : goal.width_at-requires-2

@@ -3,7 +3,7 @@ use Prim.Native.Nat.{◌-◌, ◌<◌}
 use mathlib.Core.Path.{refl, sym, ◌∙◌, subst}
 use lib.ListN.{get_or}
 use Rattle.formula.specs.declared.Shape.TheVariants.{Identifier, Constant, Operator, Iter}
-use Rattle.meaning.specs.Rows.{exp-children}
+use Rattle.meaning.proofs.Rows.{exp-children}
 use Rattle.eval_words.specs.Words.{env_of}
 use Rattle.eval_words.specs.Needs.{exp-needs}
 use Rattle.eval_words.specs.Parts.{Compound, part-identifier, part-constant, part-operator}

@@ -1,6 +1,6 @@
 use mathlib.Core.Path.{◌∙◌, sym, subst}
 use Rattle.value.specs.Bytes.{InRange}
-use Rattle.formula.specs.Constants.{constant-in-range}
+use Rattle.formula.proofs.Constants.{constant-in-range}
 use Rattle.eval_words.proofs.words.constant_word.Goals as goal
 
 pub word-requires : goal.word-requires

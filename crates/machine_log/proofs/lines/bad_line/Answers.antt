@@ -1,7 +1,7 @@
 use native.Mathlib.Omega.{arith}
 use Prim.Native.Nat.{◌-◌}
 use mathlib.Core.Path.{sym, ap, ◌∙◌}
-use Rattle.formula.specs.TestLaws.{starts, goes_on, stops, ends}
+use Rattle.formula.proofs.TestLaws.{starts, goes_on, stops, ends}
 use Rattle.machine_log.specs.Lines.{line_count, listed, line_well}
 use Rattle.machine_log.specs.LineLaws.{well-listed, well-many}
 use Rattle.machine_log.proofs.lines.bad_line.Goals as goal

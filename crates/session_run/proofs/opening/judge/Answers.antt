@@ -1,7 +1,7 @@
 use native.Mathlib.Omega.{arith}
 use mathlib.Core.Path.{sym, ◌∙◌}
 use lib.ListN.{length}
-use Rattle.session.specs.OpeningLaws.{bad-few, count-few, judged-bad, judged-sets, head-behind}
+use Rattle.session.proofs.OpeningLaws.{bad-few, count-few, judged-bad, judged-sets, head-behind}
 use Rattle.session_run.proofs.opening.judge.Goals as goal
 
 pub overflow_cast-line : goal.overflow_cast-line

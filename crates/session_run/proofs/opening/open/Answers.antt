@@ -5,7 +5,7 @@ use lib.Seq.{length-take-le}
 use Rattle.formula.specs.declared.Refusal.TheVariants.{Layout, Rows, SetFile}
 use Rattle.formula.specs.Refusals.{number_of}
 use Rattle.session.specs.Opening.{Refuses}
-use Rattle.session.specs.OpeningLaws.{opens-layout, opens-rows, opens-refused, inputs-few, inputs-told, opens-long, opens-judged, refusal-bounds, judged-bounds, memory-unlaid, memory-long, memory-started}
+use Rattle.session.proofs.OpeningLaws.{opens-layout, opens-rows, opens-refused, inputs-few, inputs-told, opens-long, opens-judged, refusal-bounds, judged-bounds, memory-unlaid, memory-long, memory-started}
 use Rattle.session_run.proofs.opening.open.Goals as goal
 
 pub returns-then-not-seen_laid_out : goal.returns-then-not-seen_laid_out

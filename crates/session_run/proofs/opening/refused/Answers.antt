@@ -1,4 +1,4 @@
-use Rattle.session.specs.OpeningLaws.{refusal-printed, refusal-behind}
+use Rattle.session.proofs.OpeningLaws.{refusal-printed, refusal-behind}
 use Rattle.session_run.proofs.opening.refused.Goals as goal
 
 pub returns : goal.returns

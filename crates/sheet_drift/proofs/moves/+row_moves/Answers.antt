@@ -4,7 +4,7 @@ use mathlib.Core.Path.{refl, sym, ap, ◌∙◌}
 use lib.ListN.{get_or, set, length-set}
 use borrow.Author.Tests.{not-true, not-false}
 use Rattle.formula.specs.declared.Shape.TheVariants.{Identifier, Constant, Pair, Operator, Let, If, For, Iter}
-use Rattle.meaning.specs.Rows.{exp-children}
+use Rattle.meaning.proofs.Rows.{exp-children}
 use Rattle.eval_words.specs.Needs.{exp-needs}
 use Rattle.sheet_drift.specs.Numbers.{moves_in}
 use Rattle.sheet_drift.specs.Drifts.{drifts-below}

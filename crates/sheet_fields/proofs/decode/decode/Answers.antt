@@ -3,7 +3,7 @@ use mathlib.Core.Bool.{true, false}
 use native.Mathlib.Omega.{arith}
 use Prim.Native.Nat.{◌+◌, ◌-◌, ◌*◌}
 use Rattle.formula.specs.Tests.{fields_well, line_at}
-use Rattle.formula.specs.TestLaws.{starts, goes_on, stops, ends}
+use Rattle.formula.proofs.TestLaws.{starts, goes_on, stops, ends}
 use lib.Seq.{paste, paste-zero, sets}
 use Rattle.formula.specs.Sheet.{lines_of, fields_of}
 use Rattle.formula.specs.SheetLaws.{line_fields}

@@ -2,7 +2,7 @@ use mathlib.Core.Path.{sym}
 use native.Mathlib.Omega.{arith}
 use Prim.Native.Nat.{◌*◌}
 use lib.ListN.{length-set}
-use Rattle.formula.specs.SheetLaws.{fields-well-at, line-fields-at}
+use Rattle.formula.proofs.SheetLaws.{fields-well-at, line-fields-at}
 use Rattle.sheet_fields.proofs.TableLaws.{stored}
 use Rattle.sheet_fields.proofs.decode.long_row.Goals as goal
 

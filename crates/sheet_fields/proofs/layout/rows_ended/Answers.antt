@@ -5,10 +5,10 @@ use Prim.Native.Nat.{◌+◌, ◌-◌, ◌*◌}
 use lib.ListN.{get_or}
 use borrow.Author.Tests.{eq-eqb, ne_eqb}
 use Rattle.formula.specs.Tests.{ended_at, is-passed}
-use Rattle.formula.specs.TestLaws.{starts, goes_on, stops, ends}
+use Rattle.formula.proofs.TestLaws.{starts, goes_on, stops, ends}
 use lib.Dec.{eqb}
 use Rattle.formula.specs.Sheet.{lines_of}
-use Rattle.formula.specs.SheetLaws.{line-feed}
+use Rattle.formula.proofs.SheetLaws.{line-feed}
 use Rattle.sheet_fields.proofs.layout.rows_ended.Goals as goal
 
 pub loop-i-init : goal.loop-i-init

@@ -10,7 +10,8 @@ use Rattle.formula.specs.declared.Way.TheVariants.{Iter as iter-way, Let as let-
 use Rattle.formula.specs.Kinds.{same_kinds}
 use Rattle.formula.specs.Sheet.{shape_at}
 use Rattle.formula.specs.Tree.{body_of}
-use Rattle.meaning.specs.Rows.{ExpRow, ExpChildren, BodyChildren, exp-children, body-children, ending-row}
+use Rattle.meaning.specs.Rows.{ExpRow, ExpChildren, BodyChildren}
+use Rattle.meaning.proofs.Rows.{exp-children, body-children, ending-row}
 use Rattle.eval_words.specs.Needs.{W, ExpNeeds, BodyNeeds, exp-needs, body-needs, narrow}
 use Rattle.sheet_kinds.specs.Bytes.{kinds_in, stretch}
 use Rattle.sheet_kinds.specs.Checks.{lesser, own}

@@ -6,7 +6,7 @@ use lib.ListN.{take}
 use borrow.Author.Tests.{not-true, not-false}
 use Rattle.formula.specs.declared.Check.TheVariants.{Passed}
 use Rattle.formula.specs.Tests.{lowest, ranges_well, names_well}
-use Rattle.sheet_listed.specs.SearchLaws.{search-end}
+use Rattle.sheet_listed.proofs.SearchLaws.{search-end}
 use Rattle.sheet_stands.specs.Fronts.{rows_to, Front}
 use Rattle.sheet_stands.proofs.FrontLaws.{agree_less, front_less}
 use Rattle.sheet_next.specs.Found.{found}

@@ -6,7 +6,7 @@ use lib.ListN.{length, take, drop}
 use lib.Seq.{length-take-le}
 use Rattle.formula.specs.declared.Check.TheVariants.{Passed}
 use Rattle.formula.specs.Sheet.{row_count, fields_of}
-use Rattle.formula.specs.SheetLaws.{fields-length}
+use Rattle.formula.proofs.SheetLaws.{fields-length}
 use Rattle.formula.specs.Tests.{lowest, ranges_well, names_well}
 use Rattle.sheet_read.specs.Reading.{formula_verdict, operators_in}
 use Rattle.sheet_fields.proofs.TableLaws.{part_length, part-back}

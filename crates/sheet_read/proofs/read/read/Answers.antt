@@ -3,7 +3,7 @@ use native.Mathlib.Omega.{arith}
 use Prim.Native.Nat.{◌-◌}
 use lib.ListN.{length}
 use Rattle.formula.specs.declared.Reading.TheVariants.{Accepted}
-use Rattle.formula.specs.Acceptance.{reading-passed, reading-refused}
+use Rattle.formula.proofs.Acceptance.{reading-passed, reading-refused}
 use Rattle.sheet_read.specs.Reading.{verdict_in, operators_in}
 use Rattle.sheet_read.proofs.FigureLaws.{figures-are}
 use Rattle.sheet_read.proofs.read.read.Goals as goal

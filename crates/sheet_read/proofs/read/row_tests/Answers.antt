@@ -5,7 +5,7 @@ use Prim.Native.Nat.{ℕ, ◌-◌, ◌*◌}
 use lib.ListN.{length}
 use lib.Seq.{length-take-le}
 use Rattle.formula.specs.Sheet.{row_count}
-use Rattle.formula.specs.SheetLaws.{fields-length}
+use Rattle.formula.proofs.SheetLaws.{fields-length}
 use Rattle.formula.specs.Tests.{lowest, ranges_well, names_well}
 use Rattle.sheet_read.proofs.ReadLaws.{fault-first, fault-second, rows_few, fault-third, fault-fourth, fault-fifth, rows_pass, decoded}
 use Rattle.sheet_read.proofs.read.row_tests.Goals as goal

@@ -4,9 +4,9 @@ use Prim.Native.Nat.{◌-◌}
 use lib.ListN.{length, length-replicate}
 use Rattle.formula.specs.Sheet.{named_in}
 use Rattle.formula.specs.Places.{places_of, mark_down, mark, bodies_in, is_in_body}
-use Rattle.formula.specs.PlaceLaws.{mark-step}
+use Rattle.formula.proofs.PlaceLaws.{mark-step}
 use Rattle.formula.specs.Tests.{names_well, all_between}
-use Rattle.formula.specs.TestLaws.{passed-each}
+use Rattle.formula.proofs.TestLaws.{passed-each}
 use Rattle.sheet_rows.proofs.places.find_places.Goals as goal
 
 pub loop-r-init : goal.loop-r-init

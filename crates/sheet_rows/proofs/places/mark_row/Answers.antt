@@ -3,8 +3,9 @@ use mathlib.Core.List.{[], ◌∷◌}
 use native.Mathlib.Omega.{arith}
 use Rattle.formula.specs.Sheet.{named_in}
 use Rattle.formula.specs.Places.{mark}
-use Rattle.formula.specs.TreeLaws.{AllBetween, all-between}
-use Rattle.formula.specs.PlaceLaws.{bodies-between}
+use Rattle.formula.specs.TreeLaws.{AllBetween}
+use Rattle.formula.proofs.TreeLaws.{all-between}
+use Rattle.formula.proofs.PlaceLaws.{bodies-between}
 use Rattle.sheet_rows.specs.Bodies.{listed}
 use Rattle.sheet_rows.proofs.places.mark_row.Goals as goal
 

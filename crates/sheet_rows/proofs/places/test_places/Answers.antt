@@ -4,7 +4,7 @@ use native.Mathlib.Omega.{arith}
 use Prim.Native.Nat.{◌+◌, ◌-◌}
 use lib.ListN.{get_or}
 use Rattle.formula.specs.Tests.{placed_well, is_iter}
-use Rattle.formula.specs.TestLaws.{starts, goes_on, stops, ends}
+use Rattle.formula.proofs.TestLaws.{starts, goes_on, stops, ends}
 use Rattle.sheet_rows.proofs.RowLaws.{placed_at}
 use Rattle.sheet_rows.proofs.places.test_places.Goals as goal
 

@@ -4,7 +4,7 @@ use native.Mathlib.Omega.{arith}
 use Prim.Native.Nat.{◌+◌, ◌-◌, ℕ}
 use lib.ListN.{get_or}
 use borrow.Author.Tests.{eq-eqb, ne_eqb}
-use Rattle.formula.specs.TestLaws.{starts, goes_on, stops, ends}
+use Rattle.formula.proofs.TestLaws.{starts, goes_on, stops, ends}
 use lib.Dec.{eqb}
 use mathlib.Core.List.{List}
 use Rattle.sheet_rows.proofs.rows.first_unnamed.Goals as goal

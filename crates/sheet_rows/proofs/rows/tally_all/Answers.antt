@@ -3,7 +3,7 @@ use native.Mathlib.Omega.{arith}
 use Prim.Native.Nat.{◌-◌, ◌+◌}
 use Rattle.formula.specs.Sheet.{named_in}
 use Rattle.formula.specs.Tests.{names_well, all_between}
-use Rattle.formula.specs.TestLaws.{passed-each}
+use Rattle.formula.proofs.TestLaws.{passed-each}
 use Rattle.sheet_rows.specs.Tallies.{tally, tallied}
 use Rattle.sheet_rows.proofs.RowLaws.{tallied-more}
 use Rattle.sheet_rows.proofs.rows.tally_all.Goals as goal

@@ -2,7 +2,8 @@ use mathlib.Core.Path.{◌∙◌, ap, refl, subst}
 use mathlib.Core.List.{[], ◌∷◌}
 use native.Mathlib.Omega.{arith}
 use Rattle.formula.specs.Sheet.{named_in}
-use Rattle.formula.specs.TreeLaws.{AllBetween, all-between}
+use Rattle.formula.specs.TreeLaws.{AllBetween}
+use Rattle.formula.proofs.TreeLaws.{all-between}
 use Rattle.sheet_rows.specs.Tallies.{tally}
 use Rattle.sheet_rows.proofs.rows.tally_row.Goals as goal
 

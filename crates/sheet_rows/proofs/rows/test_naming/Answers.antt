@@ -3,7 +3,7 @@ use mathlib.Core.Bool.{true, false}
 use native.Mathlib.Omega.{arith}
 use Prim.Native.Nat.{◌+◌, ◌-◌}
 use Rattle.formula.specs.Tests.{names_well, all_between}
-use Rattle.formula.specs.TestLaws.{starts, goes_on, stops, ends}
+use Rattle.formula.proofs.TestLaws.{starts, goes_on, stops, ends}
 use Rattle.formula.specs.Sheet.{named_in}
 use Rattle.sheet_rows.proofs.rows.test_naming.Goals as goal
 

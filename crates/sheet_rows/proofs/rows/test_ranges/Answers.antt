@@ -3,7 +3,7 @@ use mathlib.Core.Bool.{true, false}
 use native.Mathlib.Omega.{arith}
 use Prim.Native.Nat.{◌+◌, ◌-◌}
 use Rattle.formula.specs.Tests.{ranges_well, in_range}
-use Rattle.formula.specs.TestLaws.{starts, goes_on, stops, ends}
+use Rattle.formula.proofs.TestLaws.{starts, goes_on, stops, ends}
 use Rattle.sheet_rows.proofs.rows.test_ranges.Goals as goal
 
 pub loop-i-init : goal.loop-i-init

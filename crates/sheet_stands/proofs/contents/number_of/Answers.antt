@@ -5,7 +5,7 @@ use mathlib.Core.List.{List}
 use native.Mathlib.Omega.{arith}
 use Rattle.sheet_listed.specs.Search.{same_row, content_at}
 use Rattle.sheet_listed.specs.Texts.{field_row}
-use Rattle.sheet_listed.specs.Numbers.{number-starts}
+use Rattle.sheet_listed.proofs.Numbers.{number-starts}
 use Rattle.sheet_stands.proofs.ContentLaws.{number-here, number-later}
 use Rattle.sheet_stands.proofs.contents.number_of.Goals as goal
 

@@ -8,7 +8,7 @@ use borrow.Author.Tests.{eq-eqb, ne_eqb}
 use Rattle.formula.specs.Sheet.{row_count}
 use Rattle.formula.specs.Tests.{lowest, is-passed}
 use Rattle.sheet_listed.specs.Small.{modest_row}
-use Rattle.sheet_tidied.specs.Rowwise.{passes-rowwise}
+use Rattle.sheet_tidied.proofs.Rowwise.{passes-rowwise}
 use Rattle.sheet_stands.specs.Tests.{formula_passes}
 use Rattle.sheet_stands.proofs.TestLaws.{empty-not-small, long-not-small, refused-not-small, not-modest, table-size, rows-ranged, rows_named, small-decides}
 use Rattle.sheet_stands.proofs.tests.listed.Goals as goal

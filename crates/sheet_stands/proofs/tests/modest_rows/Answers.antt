@@ -2,7 +2,7 @@ use mathlib.Core.Path.{sym, ◌∙◌, ap}
 use native.Mathlib.Omega.{arith}
 use Prim.Native.Nat.{◌-◌}
 use Rattle.formula.specs.Tests.{is-passed}
-use Rattle.formula.specs.TestLaws.{starts, goes_on, stops, ends}
+use Rattle.formula.proofs.TestLaws.{starts, goes_on, stops, ends}
 use Rattle.sheet_listed.specs.Small.{modest_row}
 use Rattle.sheet_stands.proofs.tests.modest_rows.Goals as goal
 

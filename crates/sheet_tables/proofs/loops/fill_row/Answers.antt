@@ -2,7 +2,7 @@ use mathlib.Core.Path.{sym, ◌∙◌, ap, refl, subst}
 use mathlib.Core.List.{[], ◌∷◌}
 use native.Mathlib.Omega.{arith}
 use Rattle.formula.specs.TreeLaws.{AllBetween}
-use Rattle.formula.specs.PlaceLaws.{bodies-between}
+use Rattle.formula.proofs.PlaceLaws.{bodies-between}
 use Rattle.sheet_rows.specs.Bodies.{listed}
 use Rattle.sheet_tables.specs.Loops.{fill}
 use Rattle.sheet_tables.proofs.loops.fill_row.Goals as goal

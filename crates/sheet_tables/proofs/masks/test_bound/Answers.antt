@@ -6,7 +6,7 @@ use lib.ListN.{take, length-set}
 use lib.Seq.{length-take-le}
 use Rattle.names.specs.Names.{mask}
 use Rattle.formula.specs.Tests.{bound_well}
-use Rattle.formula.specs.TestLaws.{starts, goes_on, stops, ends}
+use Rattle.formula.proofs.TestLaws.{starts, goes_on, stops, ends}
 use Rattle.sheet_tables.specs.Nodes.{node_at, free_in, Holds}
 use Rattle.sheet_tables.proofs.NodeLaws.{ready-length, holds-none, holds-take, holds_more}
 use Rattle.sheet_tables.proofs.MaskLaws.{names_of, ranged-of, row-mask, row-bound}

@@ -7,7 +7,7 @@ use lib.ListN.{take, length-set}
 use lib.Seq.{length-take-le}
 use Rattle.formula.specs.Sheet.{named_in, shape_at}
 use Rattle.formula.specs.Tests.{widths_well}
-use Rattle.formula.specs.TestLaws.{starts, goes_on, stops, ends}
+use Rattle.formula.proofs.TestLaws.{starts, goes_on, stops, ends}
 use Rattle.formula.specs.TreeLaws.{AllBetween}
 use Rattle.sheet_tables.specs.Nodes.{node_at, returned_in, iterated_in, Holds}
 use Rattle.sheet_tables.proofs.NodeLaws.{ready-length, holds-none, holds-take, holds_more}

@@ -6,7 +6,7 @@ use Prim.Native.Nat.{◌-◌}
 use lib.ListN.{length, length-replicate}
 use Rattle.formula.specs.Places.{mark}
 use Rattle.sheet_tidied.specs.Tidy.{keep_down, kept_of}
-use Rattle.sheet_tidied.specs.KeptLaws.{keep-step}
+use Rattle.sheet_tidied.proofs.KeptLaws.{keep-step}
 use Rattle.sheet_tidy.proofs.kept.find_kept.Goals as goal
 
 pub mark_one-requires : goal.mark_one-requires

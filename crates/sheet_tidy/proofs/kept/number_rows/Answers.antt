@@ -6,7 +6,7 @@ use Rattle.sheet_tables.specs.Nodes.{Holds}
 use Rattle.sheet_tables.proofs.NodeLaws.{holds-none, holds_more}
 use Rattle.sheet_tidied.specs.Tidy.{new_number}
 use Rattle.sheet_tidy.proofs.KeptLaws.{number-kept, number-left}
-use Rattle.sheet_tidied.specs.NumberLaws.{number-most}
+use Rattle.sheet_tidied.proofs.NumberLaws.{number-most}
 use Rattle.sheet_tidy.proofs.kept.number_rows.Goals as goal
 use Rattle.sheet_tidy.proofs.kept.number_rows.Goals.{then-kept-i, else-kept-i}
 

@@ -4,7 +4,7 @@ use mathlib.Core.List.{List}
 use lib.ListN.{set, length-set}
 use lib.Seq.{sets}
 use Rattle.text.specs.Printed.{number_field}
-use Rattle.sheet_tidied.specs.Written.{row-parts}
+use Rattle.sheet_tidied.proofs.Written.{row-parts}
 use Rattle.sheet_tidy.proofs.rows.put_row.Goals as goal
 
 pub shape_of-out : goal.shape_of-out

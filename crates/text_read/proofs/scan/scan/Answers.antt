@@ -4,7 +4,7 @@ use mathlib.Core.Path.{sym, ◌∙◌, ap, refl}
 use mathlib.Core.Bool.{true, false}
 use lib.ListN.{drop}
 use Rattle.text.specs.Scan.{scanned}
-use Rattle.text.specs.ScanLaws.{scan-more, scan-end}
+use Rattle.text.proofs.ScanLaws.{scan-more, scan-end}
 use Rattle.text.specs.declared.Seen.{Seen}
 use Rattle.text_read.proofs.scan.scan.Goals as goal
 

@@ -5,7 +5,8 @@ use mathlib.Core.Bool.{true, false}
 use lib.ListN.{length, take, drop, length-drop}
 use lib.Seq.{drop-drop}
 use Rattle.text.specs.SetLines.{lines_of, field_bytes, is_set_line, sets_from, sets_of}
-use Rattle.text.specs.SetLineLaws.{bad-line, good-line, no_line, more_than, none_read, one-read, set-line-fits}
+use Rattle.text.proofs.SetLineLaws.{bad-line, good-line, no_line, none_read, one-read, set-line-fits}
+use Rattle.text.specs.SetLineLaws.{more_than}
 use Rattle.text_read.proofs.sets.count_sets.Goals as goal
 
 pub loop-at-init : goal.loop-at-init

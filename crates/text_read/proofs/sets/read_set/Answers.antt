@@ -11,8 +11,9 @@ use Rattle.value.specs.Bytes.{is_some, value_of, stored}
 use Rattle.value.specs.Kinds.{of_kind}
 use Rattle.text.specs.Fields.{field_value, word_by}
 use Rattle.text.specs.SetLines.{line_at, field_at}
-use Rattle.text.specs.SetLineLaws.{field-at, field_well, wells-none, wells-more, wells-fail, bytes-none, bytes-more, short-line, unended-line, ended-line}
-use Rattle.text.specs.ValueBytes.{field-word}
+use Rattle.text.proofs.SetLineLaws.{field-at, wells-none, wells-more, wells-fail, bytes-none, bytes-more, short-line, unended-line, ended-line}
+use Rattle.text.specs.SetLineLaws.{field_well}
+use Rattle.text.proofs.ValueBytes.{field-word}
 use Rattle.text_read.proofs.sets.read_set.Goals as goal
 
 false-true : {A : Type 0} → ◌≡◌ {A = Bool} false true → A

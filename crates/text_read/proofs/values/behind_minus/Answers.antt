@@ -4,7 +4,7 @@ use mathlib.Core.Path.{sym, ◌∙◌, ap}
 use mathlib.Core.Bool.{true, false}
 use lib.Seq.{slice}
 use Rattle.text.specs.Fields.{negative, word_by}
-use Rattle.text.specs.FieldLaws.{minus-end, minus-low, minus-high, minus-digit}
+use Rattle.text.proofs.FieldLaws.{minus-end, minus-low, minus-high, minus-digit}
 use Rattle.formula.specs.Sheet.{digits_of}
 use Rattle.formula.specs.declared.Field.{Field}
 use Rattle.text_read.proofs.values.behind_minus.Goals as goal

@@ -2,7 +2,7 @@ use native.Mathlib.Omega.{arith}
 use mathlib.Core.Path.{sym, ◌∙◌, ap}
 use Rattle.formula.specs.declared.Field.{Field}
 use Rattle.text.specs.Fields.{patterned, word_by}
-use Rattle.text.specs.FieldLaws.{real-end, real-space, real-digits}
+use Rattle.text.proofs.FieldLaws.{real-end, real-space, real-digits}
 use Rattle.text_read.proofs.values.behind_r.Goals as goal
 
 pub returns-then-i-end : goal.returns-then-i-end

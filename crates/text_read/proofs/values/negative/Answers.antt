@@ -1,7 +1,7 @@
 use Prim.Native.Nat.{◌-◌}
 use mathlib.Core.Path.{sym}
 use mathlib.Core.Bool.{true, false}
-use Rattle.text.specs.FieldLaws.{negative-word, negative-large, negative-zero, negative-malformed}
+use Rattle.text.proofs.FieldLaws.{negative-word, negative-large, negative-zero, negative-malformed}
 use Rattle.text_read.proofs.values.negative.Goals as goal
 
 pub returns-then-n-eq0 : goal.returns-then-n-eq0

@@ -1,7 +1,7 @@
 use Prim.Native.Nat.{◌-◌}
 use mathlib.Core.Path.{sym}
 use mathlib.Core.Bool.{true, false}
-use Rattle.text.specs.FieldLaws.{positive-word, positive-large, positive-malformed}
+use Rattle.text.proofs.FieldLaws.{positive-word, positive-large, positive-malformed}
 use Rattle.text_read.proofs.values.positive.Goals as goal
 
 pub returns-then-n-le-GREATEST : goal.returns-then-n-le-GREATEST

@@ -1,5 +1,5 @@
 use mathlib.Core.Path.{sym, ◌∙◌}
-use Rattle.text.specs.FieldLaws.{patterned-word, patterned-large, patterned-malformed}
+use Rattle.text.proofs.FieldLaws.{patterned-word, patterned-large, patterned-malformed}
 use Rattle.text_read.proofs.values.real.Goals as goal
 
 pub returns-then-n-lt-PATTERNS : goal.returns-then-n-lt-PATTERNS

@@ -7,7 +7,7 @@ use Rattle.value.specs.declared.Value.TheVariants.{Truth, Err}
 use Rattle.value.specs.Bytes.{word_of}
 use Rattle.formula.specs.declared.Field.{Field}
 use Rattle.text.specs.Fields.{positive, word_by}
-use Rattle.text.specs.FieldLaws.{alone-word, value-true, value-false, value-err, value-real, value-minus, value-number}
+use Rattle.text.proofs.FieldLaws.{alone-word, value-true, value-false, value-err, value-real, value-minus, value-number}
 use Rattle.text_read.proofs.values.unspaced.Goals as goal
 
 pub bounds-s-i : goal.bounds-s-i

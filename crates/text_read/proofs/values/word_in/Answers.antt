@@ -3,7 +3,7 @@ use Prim.Native.Nat.{◌+◌, ◌-◌}
 use mathlib.Core.Path.{◌≡◌, sym, ◌∙◌, ap, refl}
 use mathlib.Core.Bool.{true, false}
 use Rattle.text.specs.Fields.{word_by}
-use Rattle.text.specs.FieldLaws.{value-space, value-end}
+use Rattle.text.proofs.FieldLaws.{value-space, value-end}
 use Rattle.text_read.proofs.values.word_in.Goals as goal
 
 pub loop-i-init : goal.loop-i-init

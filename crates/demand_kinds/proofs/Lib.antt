@@ -1,0 +1,4 @@
+-- The laws of this crate.
+pub mod LesserKinds
+pub mod RefusedSets
+pub mod RightKinds

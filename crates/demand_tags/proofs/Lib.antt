@@ -1,0 +1,25 @@
+-- The laws of this crate.
+pub mod Begins
+pub mod Benched
+pub mod ByRule
+pub mod CallSteps
+pub mod Claimed
+pub mod Firings
+pub mod FirstPush
+pub mod FreeTags
+pub mod IdentifierTagged
+pub mod Idle
+pub mod LentPlanes
+pub mod LesserTagged
+pub mod LooplessEnds
+pub mod OwnResults
+pub mod Played
+pub mod Plays
+pub mod PushTake
+pub mod Settled
+pub mod StartedBytes
+pub mod Stepped
+pub mod TaggedStart
+pub mod Tested
+pub mod UnderTags
+pub mod WholeResults

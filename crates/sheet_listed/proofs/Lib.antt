@@ -1,0 +1,21 @@
+-- The laws of this crate.
+pub mod Behind
+pub mod Contents
+pub mod Followed
+pub mod Listed
+pub mod Lists
+pub mod LoopRows
+pub mod NextLaws
+pub mod NoLoops
+pub mod Numbers
+pub mod Ordered
+pub mod Orders
+pub mod Passing
+pub mod Rising
+pub mod RowLaws
+pub mod RowSizes
+pub mod SearchLaws
+pub mod SmallTests
+pub mod Standing
+pub mod Texts
+pub mod Walks

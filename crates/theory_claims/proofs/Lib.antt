@@ -1,0 +1,20 @@
+-- The laws of this crate.
+pub mod BodyIf
+pub mod BodyJoins
+pub mod Claims
+pub mod FormulaParts
+pub mod IfNames
+pub mod Keeps
+pub mod KindClaims
+pub mod LaidOut
+pub mod LaidParts
+pub mod LoopLaid
+pub mod MadeClaims
+pub mod Parts
+pub mod Rings
+pub mod Rows
+pub mod Runs
+pub mod Sheets
+pub mod Telling
+pub mod TypedFormulas
+pub mod TypedGraphs

@@ -1,0 +1,26 @@
+-- The laws of this crate.
+pub mod Absence
+pub mod Agreement
+pub mod ArmNames
+pub mod BareOutputs
+pub mod BodyIfMeets
+pub mod BodyJoin
+pub mod BodyWidths
+pub mod Branches
+pub mod Choice
+pub mod CutGraphs
+pub mod Cuts
+pub mod Examples
+pub mod FitGraphs
+pub mod FitParts
+pub mod FreeNames
+pub mod Gates
+pub mod IfMeets
+pub mod JoinRows
+pub mod Joins
+pub mod Lookups
+pub mod LoopRounds
+pub mod Meets
+pub mod Naming
+pub mod Rows
+pub mod TreeMeets
