@@ -12,7 +12,6 @@ Typed nothing C cs = cs ≡ []
 Typed (beside a b) C cs = (is : List Claim) × (os : List Claim) × (cs ≡ is ++ os) × Typed a C is × Typed b C os
 Typed (bind ns a b) C cs = (D : Claims) × Binds-only ns C D × Typed a C (claims_of D ns) × Typed b D cs
 Typed (gate g a) C cs = (is : List Claim) × Typed a C is × Typed-gate g is cs
-
 -- "loop rounds must agree": a round starts the next with values of the claims that it began with. Each of a loop's names may be an err.
 Typed (loop ns a b) C cs =
     (D : Claims) × Binds-only ns C D × ((x : ℕ) → free b x ≡ true → Meets (D x) err-value)
