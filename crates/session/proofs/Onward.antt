@@ -196,7 +196,7 @@ module _ (sheet line : List ℕ) (capacity : ℕ) (memory : List ℕ) (h : (star
             inr (ap (λ (z : List ℕ). (taken z (replicate 80 0)).answer.refusal) (sym (take-length m)) ∙ (rw R.memory at p))
 
   -- ---- one repetition
-  module _ (all : List (List ℕ)) (n : ℕ) (rest : List (List ℕ)) (m : List ℕ) (left : ℕ) (U : Underway all n rest m) where
+  module _ (all : List (List ℕ)) (n : ℕ) (rest : List (List ℕ)) (m : List ℕ) (left : ℕ) (U : (Underway sheet line capacity memory h) all n rest m) where
     abbrev f : Fed
     f = feeding rest m
 
