@@ -26,3 +26,4 @@ pub mod Pushes
 pub mod RoundSteps
 pub mod Swapped
 pub mod Trays
+pub mod SwappedNone

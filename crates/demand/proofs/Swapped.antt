@@ -59,10 +59,3 @@ swapped sheet a b group same ends k out l m =
     let p = pushed-if-taken a k l in
     let q = pushed-if-taken b k m in
     same-result a b k k (same k out p q) (ends k out p q) l m
-
--- The empty group: where two runs have the same sets and evaluation of each ends, every position taken in both has the same result. Of the group of all nothing is claimed.
-pub swapped-none : (sheet : List ℕ) (a b : Run sheet)
-    → ((k : ℕ) → k < length (sets a) → k < length (sets b) → get_or (sets a) k [] ≡ get_or (sets b) k [])
-    → ((k : ℕ) → k < length (sets a) → k < length (sets b) → Ends sheet a.line (get_or (sets a) k []))
-    → (k : ℕ) → k < length (results a) → k < length (results b) → get_or (results a) k (result 0 []) ≡ get_or (results b) k (result 0 [])
-swapped-none sheet a b same ends k = swapped sheet a b (λ j. false) (λ j out. same j) (λ j out. ends j) k refl

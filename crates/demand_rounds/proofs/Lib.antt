@@ -3,3 +3,4 @@ pub mod Told
 pub mod Traced
 pub mod Waiting
 pub mod WorkInTurn
+pub mod OneRun

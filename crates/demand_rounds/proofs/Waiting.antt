@@ -108,7 +108,7 @@ read_first x kinds capacity (suc n) [] (v ∷ vss) r = absurd r
 read_first x kinds capacity (suc n) (s ∷ sets) [] r = absurd r
 read_first x kinds capacity (suc n) (s ∷ sets) (v ∷ vss) r = (r.0, read_first x kinds capacity n sets vss r.1)
 
-each-of-first : (sheet line : List ℕ) (n : ℕ) (sets : List (List ℕ)) → n ≤ length sets → ((j : ℕ) → j < n → Ends sheet line (get_or sets j [])) → EachSetEnds sheet line (first_of n sets)
+pub each-of-first : (sheet line : List ℕ) (n : ℕ) (sets : List (List ℕ)) → n ≤ length sets → ((j : ℕ) → j < n → Ends sheet line (get_or sets j [])) → EachSetEnds sheet line (first_of n sets)
 each-of-first sheet line zero sets l f = tt
 each-of-first sheet line (suc n) [] l f = tt
 each-of-first sheet line (suc n) (s ∷ sets) l f = (f 0 (omega arith), each-of-first sheet line n sets (omega arith) (λ j h. f (suc j) (omega arith)))
@@ -268,23 +268,3 @@ module _ (sheet line : List ℕ) (capacity : ℕ) (memory : List ℕ) (h : (star
             (memory_after_all (map (by_rounds lent-rounds) rounds) (memory_after_all calls start)) (after_steps x (steps_from x capacity (rounds_of x (total rounds)) q) q)
             (rounds-lead lent-rounds long rounds (memory_after_all calls start) q T.stands) room
             (ap (steps_of x capacity takes) (sym (calls-lead x capacity T.calls (rounds_of x (total rounds)) (start_of x))) ∙ ready)
-
-        -- ONE RUN BY ROUNDS.
-        pub ready-after-rounds : (firings : List (List ℕ)) → AllAccepted (in_turn lent out upToOldest firings) (started sheet line capacity memory).mem
-            → (rounds : ℕ) → owed (in_turn lent out upToOldest firings) calls (started sheet line capacity memory).mem ≤ rounds
-            → (lent-rounds : ℕ) → need (size_of capacity) ≤ lent-rounds → (lent-take : ℕ) → need (size_of capacity) ≤ lent-take → (into : List ℕ) → 80 ≤ length into
-            → (answer_of (take lent-take into) (memory_after (by_rounds lent-rounds rounds) (memory_after_all calls (started sheet line capacity memory).mem))).refusal ≡ 0
-        unfolding memory_after_all
-        ready-after-rounds firings g rounds l = ready-after-runs firings g (rounds ∷ []) (omega (arith, l))
-
-        -- "suppose the evaluation of the oldest untaken set, and of every set before it, ends": then there is such a work, and the bound holds of it.
-        pub oldest-ready-by-rounds : 80 ≤ length out
-            → ((j : ℕ) → j ≤ length (results_taken calls (started sheet line capacity memory).mem) → Ends sheet line (get_or (sets_pushed calls (started sheet line capacity memory).mem) j []))
-            → (firings : List (List ℕ)) × LentFits firings × AllAccepted (in_turn lent out upToOldest firings) (started sheet line capacity memory).mem
-            × ((rounds : ℕ) → owed (in_turn lent out upToOldest firings) calls (started sheet line capacity memory).mem ≤ rounds
-            → (lent-rounds : ℕ) → need (size_of capacity) ≤ lent-rounds → (lent-take : ℕ) → need (size_of capacity) ≤ lent-take → (into : List ℕ) → 80 ≤ length into
-            → (answer_of (take lent-take into) (memory_after (by_rounds lent-rounds rounds) (memory_after_all calls (started sheet line capacity memory).mem))).refusal ≡ 0)
-        oldest-ready-by-rounds room ends =
-            let f = in-turn-exists room upToOldest
-            (each-of-first sheet line (suc (length (results_taken calls start))) (sets_pushed calls start) (omega arith) (λ j i. ends j (omega arith))) in
-            (f.0, f.1, f.2, ready-after-rounds f.0 f.2)

@@ -143,10 +143,3 @@ module _ (sheet line : List ℕ) (capacity : ℕ) (memory : List ℕ) (h : (star
   pub shows-counts : (before : Tally) → firings_of_all calls start ≤ most → accepted_takes calls start ≤ most → refused_pushes calls start ≤ most
       → recordAfter before ≡ tallies (firings_of_all calls start) (accepted_takes calls start) (refused_pushes calls start)
   shows-counts before f t r = tally-shows before ∙ tallies-same _ _ _ _ _ _ (omega arith) (omega arith) (omega arith)
-
-  -- The record tells that by itself: no number in it stands where it stops.
-  pub shows-below : (before : Tally) → (recordAfter before).firings < most → (recordAfter before).takes < most → (recordAfter before).refused < most
-      → recordAfter before ≡ tallies (firings_of_all calls start) (accepted_takes calls start) (refused_pushes calls start)
-  shows-below before f t r =
-      shows-counts before (omega (arith, f, ap (λ (w : Tally). w.firings) (tally-shows before))) (omega (arith, t, ap (λ (w : Tally). w.takes) (tally-shows before)))
-      (omega (arith, r, ap (λ (w : Tally). w.refused) (tally-shows before)))

@@ -16,7 +16,7 @@ use Rattle.graph.specs.Translation.{made_of}
 use Rattle.theory_wiring.proofs.Machine.{net-past}
 use Rattle.theory_verdicts.specs.Running.{places, operator_at, start_of, dec_able, Call, fires, takes, after_steps, accept, steps_of, steps_from, history, standing, pushed, taken}
 use Rattle.theory_verdicts.proofs.RunningLaws.{handed-count}
-use Rattle.theory_verdicts.proofs.Verdicts.{demand-3}
+use Rattle.theory_verdicts.proofs.Demand3.{demand-3}
 use Rattle.theory_rounds.specs.InTurn.{fires_from, rounds_of}
 use Rattle.theory_rounds.proofs.TurnLaws.{sets-append, takes-append, firings-append, firings-push, firings-take, steps-append}
 use Rattle.theory_rounds.specs.TurnLaws.{Only-firings}

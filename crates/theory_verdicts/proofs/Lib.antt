@@ -9,3 +9,4 @@ pub mod Results
 pub mod RunLaws
 pub mod RunningLaws
 pub mod Verdicts
+pub mod Demand3

@@ -35,7 +35,7 @@ use Rattle.theory_verdicts.specs.Results.{result_of, EndsWith, EachEnds}
 use Rattle.theory_verdicts.specs.Owed.{push_number, take_number, source_link, credit_link}
 use Rattle.theory_verdicts.proofs.Owed.{piece_of, meansOf, evaluation, result-width, results-are, inputs_are, input-count, owed, source-is-apart, credit-is-apart}
 use Rattle.theory_verdicts.proofs.CutOwed.{cut-owed}
-use Rattle.theory_verdicts.specs.Running.{places, operator_at, with_trigger, push_of, take_of, start_of, dec_able, Call, fires, takes, after_steps, handed, accept, steps_of, history, standing, pushed, taken, OwnVerdicts}
+use Rattle.theory_verdicts.specs.Running.{places, operator_at, with_trigger, push_of, take_of, start_of, dec_able, Call, fires, takes, after_steps, handed, accept, steps_of, history, standing, pushed, taken}
 use Rattle.theory_verdicts.proofs.RunningLaws.{Made-in-turn, calls-made, Whole-sets, calls-whole, triggering, triggered-sets, steps-accepted, steps-after, steps-handed, steps-sets, steps-takes, handed-count, trigger-off, Each-whole, sets-whole, first-whole, first-triggered, sets-sized}
 
 refused-cannot : {A : Type 0} (s : Step) (d : Dec A) → accept d s ≡ [] → A → ⊥
@@ -222,7 +222,7 @@ module _ (s : List ℕ) (accepted : Admissible s) (capacity : ℕ) (room : 1 ≤
   pub untaken-counted : length (taken (formula_of s) capacity calls) + length (standing (formula_of s) capacity calls credit_link) ≡ length (pushed (formula_of s) capacity calls)
   untaken-counted = untaken-here x admitted few capacity room (history x capacity calls) made
 
-  were-pushed : length (taken x capacity calls) ≤ length (pushed x capacity calls)
+  pub were-pushed : length (taken x capacity calls) ≤ length (pushed x capacity calls)
   were-pushed = omega (arith, untaken-counted)
 
   -- The k-th result taken is what direct evaluation yields for the k-th set, if it ends, whatever the sets before it do.
@@ -234,7 +234,7 @@ module _ (s : List ℕ) (accepted : Admissible s) (capacity : ℕ) (room : 1 ≤
   unfolding steps_of
   none-able quiet a = refused-cannot _ (dec_able (places capacity) (operator_at x a) (standing x capacity calls)) (quiet a)
 
-  ready-when-quiet : ((a : ℕ) → steps_of x capacity (fires a) (standing x capacity calls) ≡ [])
+  pub ready-when-quiet : ((a : ℕ) → steps_of x capacity (fires a) (standing x capacity calls) ≡ [])
       → (length (taken x capacity calls) ≡ length (pushed x capacity calls)) ⊎ (steps_of x capacity takes (standing x capacity calls) ≡ taking ∷ [])
   unfolding steps_of
   ready-when-quiet quiet = go (quiet-ready x admitted few capacity room (history x capacity calls) made sets (none-able quiet))
@@ -257,16 +257,6 @@ module _ (s : List ℕ) (accepted : Admissible s) (capacity : ℕ) (room : 1 ≤
       → length (taken (formula_of s) capacity calls) ≡ length (pushed (formula_of s) capacity calls) → (v : List Value) → length v ≡ (made_of (formula_of s)).inputs
       → Able (places capacity) (push_of (formula_of s) v) (standing (formula_of s) capacity calls)
   pushable-when-quiet quiet all v e = quiet-push x admitted few capacity room (history x capacity calls) made sets (none-able quiet) all v e
-
--- "A beacon's verdict comes from its own readings and nobody else's. Start a machine empty for an accepted sheet, with links holding 1 to 16 tokens. Then
--- the following holds after every list of pushes, single firings, runs and takes, in any order, with any sets and numbers, refused calls included".
-pub demand-3 : (s : List ℕ) → Admissible s → (capacity : ℕ) → 1 ≤ capacity → capacity ≤ 16 → (calls : List Call) → OwnVerdicts (formula_of s) capacity calls
-demand-3 s accepted capacity room most calls =
-    record {
-      own = λ k l ends r e. alone-verdict s accepted capacity room calls k l r e;
-      none-invented = were-pushed s accepted capacity room calls;
-      ready = ready-when-quiet s accepted capacity room calls;
-    }
 
 -- The made graph of an accepted sheet is small enough for the machine's numbers.
 pub accepted-graph : (s : List ℕ) → Admissible s → (length (made_of (formula_of s)).operators ≤ 1024) × ((made_of (formula_of s)).links ≤ 3105)
