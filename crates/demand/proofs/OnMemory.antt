@@ -34,6 +34,7 @@ use Rattle.theory_verdicts.specs.ResultSets.{values_in}
 use Rattle.theory_verdicts.specs.Running as Abstract
 use Rattle.theory_verdicts.specs.Running.{places, operator_at, take_of, start_of, dec_able, fires, accept, steps_of}
 use Rattle.theory_verdicts.proofs.Verdicts as Verdicts
+use Rattle.theory_verdicts.proofs.Demand3 as Abstractly
 use Rattle.demand_view.specs.Stands.{Stands}
 use Rattle.demand.specs.MemoryCalls.{Call, fire, take, Result, result, answer_of, memory_after_all, sets_pushed, results_taken}
 use Rattle.demand.specs.Claim.{Enough, Ends, yielded, OwnVerdicts}
@@ -118,7 +119,7 @@ module _ (sheet line : List ℕ) (ok : Admissible sheet) (told : Kinded sheet li
   memory = memory_after_all calls start
 
   abstractly : Abstract.OwnVerdicts x capacity F.calls
-  abstractly = Verdicts.demand-3 sheet ok capacity low high F.calls
+  abstractly = Abstractly.demand-3 sheet ok capacity low high F.calls
 
   pub as-many-results : length (results_taken calls start) ≡ length results
   as-many-results = ap length F.shows ∙ length-map results shown_tokens
