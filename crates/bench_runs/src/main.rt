@@ -5,55 +5,41 @@
 // length, or unended; files that are missing, cannot be read or are too long; a million firings, and more. Folder `missing` has
 // no file; in `folders` the files are folders; a folder `kinds_` may have only the file that differs.
 // What `million_one`, `behind_endless` and `starved` print before their 36 rests on the numbering of docs/NUMBERING.md.
-ghost use Rattle.std.specs.Prelude.{◌≤◌, length};
+ghost use Rattle.std.specs.Prelude.{◌+◌, ◌≡◌, length, IfSome};
 
-use files::{large_buffer, open_read, read_full};
+use files::{LONG, open_read, read_full};
 use session_run::run;
 use std::rt::Files;
 
-// Where the byte b stands next, from `at` on; the end where it does not.
-fn next(list: &[u8], at: usize, b: u8) -> usize
-    requires { at ≤ length list.now }
-    ensures { (at ≤ result) × (result ≤ length list.now) }
+// The bytes before the first b and those behind it, none where it does not stand.
+fn cut(list: &[u8], b: u8) -> Option<(&[u8], &[u8])>
+    ensures { IfSome result (λ parts. length parts.0.now + 1 + length parts.1.now ≡ length list.now) }
 {
-    let mut i = at;
-    while i < list.len() {
-        if list[i] == b {
-            return i;
-        }
-        i += 1;
-    }
-    i
+    let at = list.iter().position(|x| *x == b)?;
+    Some((&list[..at], &list[at + 1..]))
 }
 
 // Makes each run of a list.
-fn run_all<R: Files + Print>(rt: &R, list: &[u8]) {
-    let mut at = 0;
-    while at < list.len() {
-        let space = next(list, at, b' ');
-        if space == list.len() {
-            return;
-        }
-        let kinds = space + 1;
-        let second = next(list, kinds, b' ');
-        if second == list.len() {
-            return;
-        }
-        let file = second + 1;
-        let end = next(list, file, b'\n');
-        run(rt, &list[at..space], &list[kinds..second], &list[file..end]);
-        if end == list.len() {
-            return;
-        }
-        at = end + 1;
+fn run_all<R: Files + Print>(rt: &R, list: &[u8]) -> Option<()> {
+    let mut rest = list;
+    while !rest.is_empty() {
+        let (formula, behind) = cut(rest, b' ')?;
+        let (kinds, behind) = cut(behind, b' ')?;
+        let Some((file, behind)) = cut(behind, b'\n') else {
+            run(rt, formula, kinds, behind);
+            return None;
+        };
+        run(rt, formula, kinds, file);
+        rest = behind;
     }
+    Some(())
 }
 
 fn main(rt: HostRuntime) {
-    let mut list = large_buffer();
+    let mut list = [0u8; LONG];
     let Some(mut file) = open_read(&rt, b"runs.txt") else {
         return;
     };
     let n = read_full(&mut file, &mut list);
-    run_all(&rt, &list[..n]);
+    let _ = run_all(&rt, &list[..n]);
 }

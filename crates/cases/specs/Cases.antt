@@ -1,6 +1,6 @@
 -- Document 01's marked examples (p), "one list of definitions' outcomes with one proof over the list", and what document 02 asks for: the verdict
 -- of Job 2, the reasons of Job 5, the kinds of Job 6, with which every sheet comes, and the floats of Job 9. A case is a question and what it gives; a question that a later part answers is one constructor more, in `Question`, `Answer` and `got`.
-use Rattle.std.specs.Prelude.{ℕ, ◌≡◌, refl, Bool, true, false, List, [], ◌∷◌, ◌++◌, map, pos, negsuc, length, replicate}
+use Rattle.std.specs.Prelude.{ℕ, ◌≡◌, refl, Bool, true, false, List, [], ◌∷◌, ◌++◌, map, pos, negsuc, length, replicate, Ok, Err as at_fault}
 use Rattle.std.proofs.Math.Decide.{ℕ_discrete}
 use Rattle.std.specs.Float.{binary32}
 use Rattle.std.specs.Float.Ieee.{fits, round, mul, lt, of_bits, to_bits}
@@ -11,11 +11,8 @@ use Rattle.value.specs.Operators.{real_of}
 use Rattle.value.specs.Bytes.{bytes_of}
 use Rattle.value.specs.Constants.{thousandths}
 use Rattle.value.specs.Senses.{err}
-use Rattle.formula.specs.declared.Verdict.{Verdict}
-use Rattle.formula.specs.declared.Verdict.TheVariants.{Passed, Refused}
+use Rattle.formula.specs.Results.{Reading, Verdict}
 use Rattle.formula.specs.declared.Figures.{Figures}
-use Rattle.formula.specs.declared.Reading.{Reading}
-use Rattle.formula.specs.declared.Reading.TheVariants.{Accepted, Rejected}
 use Rattle.formula.specs.Refusals.{number_of}
 use Rattle.formula.specs.Tree.{formula_of}
 use Rattle.formula.specs.Count.{count_e}
@@ -58,12 +55,12 @@ pub data Answer : Type 0 where
   refusals : List ℕ → Answer
 
 abbrev reading_says : Reading → Answer
-reading_says (Accepted figures) = accepts figures
-reading_says (Rejected r row) = refuses (number_of r) row
+reading_says (Ok figures) = accepts figures
+reading_says (at_fault why) = refuses (number_of why.refusal) why.row
 
 abbrev evaluation_says : Verdict → Evaluation → Answer
-evaluation_says Passed e = evaluates 0 0 e.width e.rounds e.cells
-evaluation_says (Refused r row) e = evaluates (number_of r) row e.width e.rounds e.cells
+evaluation_says (Ok _) e = evaluates 0 0 e.width e.rounds e.cells
+evaluation_says (at_fault why) e = evaluates (number_of why.refusal) why.row e.width e.rounds e.cells
 
 unfoldable pub got : Question → Answer
 unfolding reading_of count_e formula_of made_of evaluation_of bytes_of push_refusals marks append ℕ_discrete real_of thousandths round mul lt of_bits to_bits fits

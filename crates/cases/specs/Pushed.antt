@@ -1,10 +1,9 @@
 -- Document 01's marked example "sixteen pushes at capacity 16 pass, the seventeenth gives 32" on the machine's memory: the case of the one list (Cases), which
 -- reads the answers off the links, carried over by the law that pushes on bytes are answered as the links say (demand/specs/Pushes). For every memory of the
 -- length that start needs, and pushes lent no less of it. Assumes nothing else.
-use Rattle.std.specs.Prelude.{ℕ, ◌≤◌, ◌≡◌, refl, List, [], ◌∷◌, ◌++◌, length, get_or, replicate}
+use Rattle.std.specs.Prelude.{ℕ, ◌≤◌, ◌≡◌, refl, List, [], ◌∷◌, ◌++◌, length, get_or, replicate, Ok}
 use Rattle.std.proofs.Common.{ap, ◌∙◌, arith}
 use Rattle.std.proofs.Math.Option.{some}
-use Rattle.formula.specs.declared.Verdict.TheVariants.{Passed}
 use Rattle.formula.specs.Tree.{formula_of}
 use Rattle.formula.specs.Faults.{letters_of}
 use Rattle.formula.specs.Tests.{verdict_of}
@@ -33,7 +32,7 @@ case-worked : push_refusals (formula_of (bytes lesser)) 16 three_and_five 17 (st
 unfolding cases got refusals_in
 case-worked = ap (λ (gs : List Answer). refusals_in (get_or gs 0 (refusals []))) cases-worked
 
-lesser-passed : verdict_of (bytes lesser) (bytes "WW\n") ≡ Passed
+lesser-passed : verdict_of (bytes lesser) (bytes "WW\n") ≡ Ok tt
 unfolding verdict_of bytes lesser
 lesser-passed = refl
 

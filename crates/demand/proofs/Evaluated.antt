@@ -2,7 +2,7 @@
 -- (eval_sheet/specs/Handed `handed_out`, the contract of bench_evaluate), and both tell the same width. Claim and Alone compare with the result set's bytes; here
 -- they are those that evaluation stores cell by cell. Document 01, "the result taken equals its result set in width and all sixteen places". Assumes an accepted
 -- start, and rounds and room enough for the evaluation of the k-th set.
-use Rattle.std.specs.Prelude.{ℕ, zero, suc, ◌+◌, ◌-◌, ◌*◌, ◌≤◌, ◌<◌, ◌≡◌, List, [], ◌++◌, map, length, get_or, drop, take as first_of, replicate}
+use Rattle.std.specs.Prelude.{ℕ, zero, suc, ◌+◌, ◌-◌, ◌*◌, ◌≤◌, ◌<◌, ◌≡◌, List, [], ◌++◌, map, length, get_or, drop, take as first_of, replicate, Ok, Err}
 use Rattle.std.proofs.Math.Path.{refl, ap}
 use Rattle.std.proofs.Common.{sym, ap₂, ◌∙◌, arith, length-append}
 use Rattle.std.proofs.Math.Option.{Option, none, some}
@@ -11,8 +11,7 @@ use Rattle.std.proofs.Math.Seq.{take_at}
 use Rattle.value.specs.declared.Value.{Value}
 use Rattle.value.specs.Bytes.{word_of, stored}
 use Rattle.value.specs.Senses.{err}
-use Rattle.formula.specs.declared.Verdict.{Verdict}
-use Rattle.formula.specs.declared.Verdict.TheVariants.{Passed, Refused}
+use Rattle.formula.specs.Results.{Verdict}
 use Rattle.formula.specs.Tree.{formula_of}
 use Rattle.formula.specs.Free.{free_e}
 use Rattle.formula.specs.Faults.{letters_of}
@@ -47,9 +46,9 @@ sixteen-cells sheet line set rounds = go (verdict_of sheet line) (set_values (le
   where
     go : (v : Verdict) (o : Option (List Value)) → (after_verdict v (evaluated_with (formula_of sheet) rounds o)).width ≤ 16
         → length (after_verdict v (evaluated_with (formula_of sheet) rounds o)).cells ≡ 16
-    go Passed (some vs) h = concluded-sixteen rounds (eval_e (formula_of sheet) (inputs_hold (free_e (formula_of sheet)) vs) rounds) h
-    go Passed none h = refl
-    go (Refused r row) o h = refl
+    go (Ok _) (some vs) h = concluded-sixteen rounds (eval_e (formula_of sheet) (inputs_hold (free_e (formula_of sheet)) vs) rounds) h
+    go (Ok _) none h = refl
+    go (Err why) o h = refl
 
 -- ---- what evaluation writes
 written-stored : (cells : List Cell) (o : List ℕ) (j : ℕ) → written j cells o ≡ stored_out j (λ i. word_of (get_or cells i (cell err)).v) o

@@ -1,10 +1,9 @@
 -- Laws of specs/Evaluations.antt, and what only they need.
-use Rattle.std.specs.Prelude.{ℕ, ◌≡◌, List}
+use Rattle.std.specs.Prelude.{ℕ, ◌≡◌, List, Ok}
 use Rattle.std.proofs.Math.Path.{refl, ap}
 use Rattle.std.proofs.Common.{sym, subst, ◌∙◌}
 use Rattle.std.proofs.Math.Option.{some}
 use Rattle.value.specs.declared.Value.{Value}
-use Rattle.formula.specs.declared.Verdict.TheVariants.{Passed}
 use Rattle.formula.specs.Tree.{formula_of}
 use Rattle.formula.specs.Free.{free_e}
 use Rattle.formula.specs.Faults.{letters_of}
@@ -17,13 +16,13 @@ use Rattle.theory_verdicts.specs.Results.{values_of, result_of, EndsWith}
 use Rattle.demand.specs.Claim.{Enough, yielded}
 use Rattle.demand.specs.Evaluations.{shown, Is-passed, Is-some}
 
-concluded-passed : (rounds : ℕ) (o : Outcome) → (concluded rounds o).verdict ≡ Passed
+concluded-passed : (rounds : ℕ) (o : Outcome) → (concluded rounds o).verdict ≡ Ok tt
     → (r : List Value) × (values_of o ≡ some r) × (yielded (concluded rounds o) ≡ shown r)
 unfolding concluded yielded shown
 concluded-passed rounds (yields vs left) e = (vs, refl, refl)
 concluded-passed rounds Outcome.unfinished e = absurd (subst Is-passed (sym e) tt)
 
-concluded-enough : (rounds : ℕ) (o : Outcome) (r : List Value) → values_of o ≡ some r → (concluded rounds o).verdict ≡ Passed
+concluded-enough : (rounds : ℕ) (o : Outcome) (r : List Value) → values_of o ≡ some r → (concluded rounds o).verdict ≡ Ok tt
 unfolding concluded
 concluded-enough rounds (yields vs left) r e = refl
 concluded-enough rounds Outcome.unfinished r e = absurd (subst Is-some (sym e) tt)

@@ -1,5 +1,5 @@
 -- Laws of specs/OneSwap.antt, and what only they need.
-use Rattle.std.specs.Prelude.{ℕ, zero, suc, ◌≤◌, ◌<◌, ◌≡◌, refl, ◌≢◌, false, pos, length, get_or}
+use Rattle.std.specs.Prelude.{ℕ, zero, suc, ◌≤◌, ◌<◌, ◌≡◌, refl, ◌≢◌, false, pos, length, get_or, Ok}
 use Rattle.std.proofs.Common.{sym, ◌∙◌, arith}
 use Rattle.std.proofs.Math.Path.{ap, subst}
 use Rattle.std.proofs.lemmas.Bool.{false≢true}
@@ -10,7 +10,6 @@ use Rattle.value.specs.declared.Value.TheVariants.{Whole}
 use Rattle.value.specs.Bytes.{bytes_of}
 use Rattle.examples.specs.Sheets.{bytes}
 use Rattle.theory_pieces.specs.Tape.{Step, sets_of}
-use Rattle.formula.specs.declared.Verdict.TheVariants.{Passed}
 use Rattle.formula.specs.Tree.{Exp, formula_of}
 use Rattle.formula.specs.Faults.{letters_of}
 use Rattle.formula.specs.Tests.{verdict_of}
@@ -44,7 +43,7 @@ use Rattle.demand.specs.Swapped.{Run, sets, results}
 use Rattle.demand.proofs.Swapped.{swapped}
 use Rattle.demand.specs.OneSwap.{rows, line, kinds, refusals_in, first}
 
-passed : verdict_of (bytes rows) line ≡ Passed
+passed : verdict_of (bytes rows) line ≡ Ok tt
 unfolding verdict_of bytes rows
 passed = refl
 

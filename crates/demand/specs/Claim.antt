@@ -1,7 +1,6 @@
 -- Demand 3's sentences as one record, for a list of calls from the memory that a start left (document 01, "Running", second part). Direct evaluation is
 -- meaning/specs/Evaluate `evaluation_of`, of the sheet's and the set's bytes, which the evaluator's contract cites. Definitions only; assumes nothing.
-use Rattle.std.specs.Prelude.{ℕ, ◌≤◌, ◌<◌, ◌≡◌, ◌⊎◌, ◌≢◌, List, [], length, get_or}
-use Rattle.formula.specs.declared.Verdict.TheVariants.{Passed}
+use Rattle.std.specs.Prelude.{ℕ, ◌≤◌, ◌<◌, ◌≡◌, ◌⊎◌, ◌≢◌, List, [], length, get_or, Ok}
 use Rattle.meaning.specs.declared.Evaluation.{Evaluation}
 use Rattle.meaning.specs.Evaluate.{evaluation_of}
 use Rattle.formula.specs.declared.Refusal.TheVariants.{Altered, NotAble}
@@ -13,7 +12,7 @@ use Rattle.demand.specs.MemoryCalls.{Call, fire, take, Result, result, answer_of
 
 -- "Direct evaluation there is the meaning above with as many rounds as it needs"
 abbrev pub Enough : List ℕ → List ℕ → List ℕ → ℕ → Type 0
-Enough sheet line set rounds = (evaluation_of sheet line set rounds).verdict ≡ Passed
+Enough sheet line set rounds = (evaluation_of sheet line set rounds).verdict ≡ Ok tt
 
 -- "and ends if some number is enough"
 abbrev pub Ends : List ℕ → List ℕ → List ℕ → Type 0

@@ -8,7 +8,6 @@ use Rattle.value.specs.declared.Value.TheVariants.{Whole}
 use Rattle.value.specs.Bytes.{bytes_of}
 use Rattle.examples.specs.Sheets.{bytes}
 use Rattle.theory_pieces.specs.Tape.{Step, sets_of}
-use Rattle.formula.specs.declared.Verdict.TheVariants.{Passed}
 use Rattle.formula.specs.Tree.{Exp, formula_of}
 use Rattle.formula.specs.Faults.{letters_of}
 use Rattle.formula.specs.Tests.{verdict_of}

@@ -2,7 +2,7 @@
 -- each result that is err in neither set moves no further than its number." Drift is sheet_drift's specs/Drifting `drifted_into`, evaluation eval_sheet's
 -- specs/Handed `handed_out`, the definitions that the contracts of the two calls cite. Assumes an accepted drift and nothing else: evaluation of a set of
 -- the sheet's kinds is then always accepted, with any rounds.
-use Rattle.std.specs.Prelude.{ℕ, ◌*◌, ◌/◌, ◌≤◌, ◌<◌, ◌≡◌, Bool, List, get_or}
+use Rattle.std.specs.Prelude.{ℕ, ◌*◌, ◌/◌, ◌≤◌, ◌<◌, ◌≡◌, Bool, List, get_or, Ok, Err}
 use Rattle.std.proofs.Math.Path.{refl}
 use Rattle.std.proofs.Common.{sym, ap, ◌∙◌, ltb-false, le-ltb, arith}
 use Rattle.std.proofs.Math.Bool.{true, false}
@@ -21,8 +21,7 @@ use Rattle.names.specs.Names.{below}
 use Rattle.value_sets.specs.Sets.{set_ok, IsSet}
 use Rattle.value_sets.proofs.Sets.{values-set, set_values_lem}
 use Rattle.formula.specs.declared.Refusal.TheVariants.{Memory}
-use Rattle.formula.specs.declared.Verdict.{Verdict}
-use Rattle.formula.specs.declared.Verdict.TheVariants.{Passed, Refused}
+use Rattle.formula.specs.Results.{Verdict}
 use Rattle.formula.specs.Refusals.{number_of}
 use Rattle.formula.proofs.Refusals.{number-positive}
 use Rattle.formula.specs.Tree.{Exp, formula_of}
@@ -54,10 +53,10 @@ use Rattle.demand_drift.specs.Fields.{NearFields, WithinTolerance}
 use Rattle.demand_drift.proofs.Evaluates.{Evaluates, evaluates, accepts, evaluates-says, result-field}
 
 -- ---- an accepted drift
-verdict-passed : (v : Verdict) (s tolerances out : List ℕ) → (by_verdict v s tolerances out).answer.refusal ≡ 0 → v ≡ Passed
+verdict-passed : (v : Verdict) (s tolerances out : List ℕ) → (by_verdict v s tolerances out).answer.refusal ≡ 0 → v ≡ Ok tt
 unfolding by_verdict
-verdict-passed Passed s tolerances out h = refl
-verdict-passed (Refused r row) s tolerances out h = absurd (omega (arith, number-positive r, h))
+verdict-passed (Ok _) s tolerances out h = refl
+verdict-passed (Err why) s tolerances out h = absurd (omega (arith, number-positive why.refusal, h))
 
 -- ---- the values of sets
 -- The i-th value of a set is what its bytes there hold.
@@ -87,17 +86,17 @@ module _ (sheet line tolerances out : List ℕ) (h : (drifted_into sheet line to
   abbrev drifted : Handed
   drifted = drifted_into sheet line tolerances out
 
-  room-and-verdict : (64 ≤ length out) × (drift_verdict sheet line tolerances ≡ Passed)
+  room-and-verdict : (64 ≤ length out) × (drift_verdict sheet line tolerances ≡ Ok tt)
   unfolding drifted_into
   room-and-verdict = go (ltb (length out) 64) refl h
     where
       go : (b : Bool) → ltb (length out) 64 ≡ b
           → (pick b (handed (answers (number_of Memory) 0 0) out) (by_verdict (drift_verdict sheet line tolerances) sheet tolerances out)).answer.refusal ≡ 0
-          → (64 ≤ length out) × (drift_verdict sheet line tolerances ≡ Passed)
+          → (64 ≤ length out) × (drift_verdict sheet line tolerances ≡ Ok tt)
       go true e k = absurd (omega (arith, number-positive Memory, k))
       go false e k = (ltb-false (length out) 64 e, verdict-passed (drift_verdict sheet line tolerances) sheet tolerances out k)
 
-  passed : drift_verdict sheet line tolerances ≡ Passed
+  passed : drift_verdict sheet line tolerances ≡ Ok tt
   passed = room-and-verdict.1
 
   says : drifted ≡ handed (answers 0 0 (length numbers)) (sets out 0 (number_bytes numbers))

@@ -1,6 +1,6 @@
 -- Laws of specs/Evaluates.antt, and what only they need.
 use Prim.Native.Nat.{ℕ, zero, suc, ◌-◌, ◌*◌, ◌≤◌, ◌<◌}
-use Rattle.std.specs.Prelude.{◌≡◌, Bool, true, false, List, [], ◌∷◌, ◌++◌, map, ltb, length, get_or, replicate}
+use Rattle.std.specs.Prelude.{◌≡◌, Bool, true, false, List, [], ◌∷◌, ◌++◌, map, ltb, length, get_or, replicate, Ok, Err}
 use Rattle.std.proofs.Math.Path.{refl}
 use Rattle.std.proofs.Common.{sym, ap, subst, ◌∙◌, ltb-false, le-ltb, arith}
 use Rattle.std.proofs.Math.Option.{Option, some, none}
@@ -12,8 +12,7 @@ use Rattle.value.specs.Senses.{err}
 use Rattle.value.proofs.Words.{value-of-word, word_lt, length-stored, word-stored, word-before}
 use Rattle.value_sets.specs.Sets.{set_values}
 use Rattle.formula.specs.declared.Refusal.TheVariants.{Memory, Set, Unfinished}
-use Rattle.formula.specs.declared.Verdict.{Verdict}
-use Rattle.formula.specs.declared.Verdict.TheVariants.{Passed, Refused}
+use Rattle.formula.specs.Results.{Verdict}
 use Rattle.formula.specs.Refusals.{number_of}
 use Rattle.formula.proofs.Refusals.{number-positive}
 use Rattle.formula.specs.Tree.{Exp, formula_of}
@@ -38,10 +37,10 @@ unfolding told
 set_reads x rounds o (some v) h = (v, refl, h)
 set_reads x rounds o none h = absurd (omega (arith, number-positive Set, h))
 
-verdict-passes : (v : Verdict) (e : Evaluation) (o : List ℕ) → refusal_in (after_verdict v e) o ≡ 0 → (v ≡ Passed) × (refusal_in e o ≡ 0)
+verdict-passes : (v : Verdict) (e : Evaluation) (o : List ℕ) → refusal_in (after_verdict v e) o ≡ 0 → (v ≡ Ok tt) × (refusal_in e o ≡ 0)
 unfolding told
-verdict-passes Passed e o h = (refl, h)
-verdict-passes (Refused r row) e o h = absurd (omega (arith, number-positive r, h))
+verdict-passes (Ok _) e o h = (refl, h)
+verdict-passes (Err why) e o h = absurd (omega (arith, number-positive why.refusal, h))
 
 room-enough : (o : List ℕ) (done : Handed) → (pick (ltb (length o) 80) (handed (answers (number_of Memory) 0 0 0) o) done).answer.refusal ≡ 0
     → (80 ≤ length o) × (done.answer.refusal ≡ 0)
@@ -64,7 +63,7 @@ module _ (sheet line set : List ℕ) (rounds : ℕ) (o : List ℕ) where
     pub results : List Value
     pub left : ℕ
     pub room : 80 ≤ length o
-    pub passes : verdict_of sheet line ≡ Passed
+    pub passes : verdict_of sheet line ≡ Ok tt
     pub read : set_values kinds set ≡ some inputs
     pub ends : eval_e x (inputs_hold (free_e x) inputs) rounds ≡ yields results left
 
@@ -84,7 +83,7 @@ module _ (sheet line set : List ℕ) (rounds : ℕ) (o : List ℕ) where
   pub accepts : Evaluates → (handed_out sheet line set rounds o).answer.refusal ≡ 0
   accepts e = ap (λ (h : Handed). h.answer.refusal) (evaluates-says e)
 
-  pub evaluates-enough : Evaluates → (evaluation_of sheet line set rounds).verdict ≡ Passed
+  pub evaluates-enough : Evaluates → (evaluation_of sheet line set rounds).verdict ≡ Ok tt
   unfolding evaluation_of evaluated concluded
   evaluates-enough e = rw (e.passes, e.read, e.ends) refl
 

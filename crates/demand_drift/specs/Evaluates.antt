@@ -8,8 +8,6 @@ use Rattle.value.specs.Bytes.{InRange, value_of, word_of, word_at, stored}
 use Rattle.value.specs.Senses.{err}
 use Rattle.value_sets.specs.Sets.{set_values}
 use Rattle.formula.specs.declared.Refusal.TheVariants.{Memory, Set, Unfinished}
-use Rattle.formula.specs.declared.Verdict.{Verdict}
-use Rattle.formula.specs.declared.Verdict.TheVariants.{Passed, Refused}
 use Rattle.formula.specs.Refusals.{number_of}
 use Rattle.formula.specs.Tree.{Exp, formula_of}
 use Rattle.formula.specs.Free.{free_e}

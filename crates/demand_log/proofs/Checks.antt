@@ -1,6 +1,6 @@
 -- A check by its tests: those before following pass exactly where `Opened` and `NoneAtFault` (LogCalls) hold; then it is accepted exactly where following comes to the
 -- end of the log, and refused with 16 where it stops. What it starts from is a machine in which demand 3's laws hold. Assumes nothing.
-use Rattle.std.specs.Prelude.{ℕ, suc, ◌-◌, ◌≤◌, ◌≡◌, refl, ◌⊎◌, ◌≢◌, List, [], eqb, leb, get_or, take as first_of}
+use Rattle.std.specs.Prelude.{ℕ, suc, ◌-◌, ◌≤◌, ◌≡◌, refl, ◌⊎◌, ◌≢◌, List, [], eqb, leb, get_or, take as first_of, Ok, Err}
 use Rattle.std.proofs.Common.{sym, subst, ◌∙◌, arith, eq-eqb, ne_eqb, get_or-take, length-take-le}
 use Rattle.std.proofs.Math.Path.{ap}
 use Rattle.std.proofs.Math.Logic.{inl, inr}
@@ -8,8 +8,7 @@ use Rattle.std.proofs.Math.Decide.{ℕ_discrete}
 use Rattle.std.proofs.Math.ListN.{length}
 use Rattle.value.specs.Operators.{pick}
 use Rattle.formula.specs.declared.Refusal.TheVariants.{LogRefused}
-use Rattle.formula.specs.declared.Verdict.{Verdict}
-use Rattle.formula.specs.declared.Verdict.TheVariants.{Passed, Refused}
+use Rattle.formula.specs.Results.{Verdict, refused as refusing}
 use Rattle.formula.specs.Refusals.{number_of}
 use Rattle.formula.proofs.Refusals.{number-positive}
 use Rattle.formula.specs.Tree.{formula_of}
@@ -88,7 +87,7 @@ module _ (sheet line : List ℕ) (capacity : ℕ) (sets : List ℕ) (number : �
   f = followed (set_named sheet line sets number) (lines_of log) 1 (started sheet line capacity m).mem []
 
   abbrev told-all : Checked
-  told-all = by_opening Passed f (width (formula_of sheet)) m out
+  told-all = by_opening (Ok tt) f (width (formula_of sheet)) m out
 
   -- A check that has followed the log.
   pub record Followed-log : Type 0 where
@@ -96,11 +95,11 @@ module _ (sheet line : List ℕ) (capacity : ℕ) (sets : List ℕ) (number : �
     pub lines : NoneAtFault number log
     pub whole : c ≡ told-all
 
-  followed-passed : opening sheet line capacity sets number log (length m) (length out) ≡ Passed → Followed-log
+  followed-passed : opening sheet line capacity sets number log (length m) (length out) ≡ Ok tt → Followed-log
   unfolding followed_log
   followed-passed e =
       let O = opens-opened (opening-passed sheet line capacity sets number log (length m) (length out) e) in
-      record { opened = O.0; lines = O.1; whole = checked-by sheet line capacity sets number log m out Passed e }
+      record { opened = O.0; lines = O.1; whole = checked-by sheet line capacity sets number log m out (Ok tt) e }
 
   pub followed-when : Opened sheet line capacity sets number log m out → NoneAtFault number log → Followed-log
   followed-when P h = followed-passed (opens-opening sheet line capacity sets number log (length m) (length out) (opened-opens P h))
@@ -113,14 +112,14 @@ module _ (sheet line : List ℕ) (capacity : ℕ) (sets : List ℕ) (number : �
 
   by-opening : (v : Verdict) → opening sheet line capacity sets number log (length m) (length out) ≡ v → Followed-log ⊎ Not-followed
   unfolding by_opening
-  by-opening Passed e = inl (followed-passed e)
-  by-opening (Refused r row) e =
-      let i = checked-by sheet line capacity sets number log m out (Refused r row) e in
-      let n : c.answer.refusal ≡ number_of r = ap (λ (k : Checked). k.answer.refusal) i in
+  by-opening (Ok _) e = inl (followed-passed e)
+  by-opening (Err why) e =
+      let i = checked-by sheet line capacity sets number log m out (refusing why.refusal why.row) e in
+      let n : c.answer.refusal ≡ number_of why.refusal = ap (λ (k : Checked). k.answer.refusal) i in
       inr
       (record {
-        refused = λ h. omega (arith, number-positive r, n, h);
-        before = λ h. not-yet-refused sheet line capacity sets number log m out r row e (sym n ∙ h);
+        refused = λ h. omega (arith, number-positive why.refusal, n, h);
+        before = λ h. not-yet-refused sheet line capacity sets number log m out why.refusal why.row e (sym n ∙ h);
         none = ap (λ (k : Checked). k.answer.count) i;
       })
 

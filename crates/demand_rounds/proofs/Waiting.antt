@@ -1,5 +1,5 @@
 -- Laws of specs/Waiting.antt, and what only they need.
-use Rattle.std.specs.Prelude.{ℕ, zero, suc, ◌+◌, ◌-◌, ◌≤◌, ◌<◌, ◌≡◌, length, get_or}
+use Rattle.std.specs.Prelude.{ℕ, zero, suc, ◌+◌, ◌-◌, ◌≤◌, ◌<◌, ◌≡◌, length, get_or, Ok}
 use Rattle.std.proofs.Math.Path.{refl, ap, subst}
 use Rattle.std.proofs.Common.{sym, ap₂, ◌∙◌, arith}
 use Rattle.std.proofs.Math.Logic.{ite}
@@ -11,7 +11,6 @@ use Rattle.theory_schedule.specs.Counts.{count}
 use Rattle.value.specs.declared.Value.{Value}
 use Rattle.network.specs.Net.{Links}
 use Rattle.theory_pieces.specs.Tape.{Step, pushing, firing, taking}
-use Rattle.formula.specs.declared.Verdict.TheVariants.{Passed}
 use Rattle.formula.specs.Tree.{Exp, formula_of}
 use Rattle.formula.specs.Faults.{letters_of}
 use Rattle.formula.proofs.Acceptance.{admissible-passed}
@@ -138,7 +137,7 @@ module _ (sheet line : List ℕ) (capacity : ℕ) (memory : List ℕ) (h : (star
   unfolding evaluation_of evaluated
   ends_read set e = go (set_values kinds set) refl
     where
-      verdict-is : (o : Option (List Value)) → set_values kinds set ≡ o → (evaluated_with x e.0 o).verdict ≡ Passed
+      verdict-is : (o : Option (List Value)) → set_values kinds set ≡ o → (evaluated_with x e.0 o).verdict ≡ Ok tt
       verdict-is o f = ap (λ (z : Option (List Value)). (evaluated_with x e.0 z).verdict) (sym f) ∙ (rw (admissible-passed sheet line begun.admissible begun.kinded) at e.1)
 
       go : (o : Option (List Value)) → set_values kinds set ≡ o → (v : List Value) × (set_values kinds set ≡ some v)

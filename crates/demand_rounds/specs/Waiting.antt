@@ -1,15 +1,14 @@
 -- THE OLDEST VERDICT IS READY AFTER SO MANY ROUNDS (document 02, Job 7), on real memory. After any list of calls from an accepted start, where direct evaluation of the oldest
 -- untaken set and of every set before it ends: after as many rounds as firings are owed of working these sets one after another, a take is accepted
 -- (`ready-after-rounds`), and such a work there is (`in-turn-exists`, `oldest-ready-by-rounds`). What is owed: InTurn. Assumes an accepted start and nothing else.
-use Rattle.std.specs.Prelude.{ℕ, zero, suc, ◌+◌, ◌-◌, ◌≤◌, ◌<◌, ◌≡◌, length, get_or}
+use Rattle.std.specs.Prelude.{ℕ, zero, suc, ◌+◌, ◌-◌, ◌≤◌, ◌<◌, ◌≡◌, length, get_or, Ok, Err}
 use mathlib.Core.List.{List, [], ◌∷◌, ◌++◌, map, append_assoc}
 use Rattle.std.proofs.Math.ListN.{take as first_of}
 use Rattle.theory_schedule.specs.Counts.{count}
 use Rattle.value.specs.declared.Value.{Value}
 use Rattle.network.specs.Net.{Links}
 use Rattle.theory_pieces.specs.Tape.{Step, pushing, firing, taking}
-use Rattle.formula.specs.declared.Verdict.{Verdict}
-use Rattle.formula.specs.declared.Verdict.TheVariants.{Passed, Refused}
+use Rattle.formula.specs.Results.{Verdict}
 use Rattle.formula.specs.Tree.{Exp, formula_of}
 use Rattle.formula.specs.Faults.{letters_of}
 use Rattle.graph.specs.Assembly.{up_from}
@@ -34,8 +33,8 @@ use Rattle.demand.specs.Agree.{CallsAgree}
 use Rattle.demand.specs.RoundSteps.{turn_calls, rounds_calls, roundsSteps}
 
 abbrev pub Is-passed : Verdict → Type 0
-Is-passed Passed = Unit {0}
-Is-passed (Refused r row) = ⊥
+Is-passed (Ok _) = Unit {0}
+Is-passed (Err why) = ⊥
 
 -- Direct evaluation of each set ends.
 abbrev pub EachSetEnds : List ℕ → List ℕ → List (List ℕ) → Type 0

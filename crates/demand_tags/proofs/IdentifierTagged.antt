@@ -1,10 +1,9 @@
 -- Laws of specs/IdentifierTagged.antt, and what only they need.
-use Rattle.std.specs.Prelude.{ℕ, ◌≤◌, ◌≡◌, refl, ◌⊎◌, true, false, List, [], ◌∷◌, ◌++◌, length, get_or}
+use Rattle.std.specs.Prelude.{ℕ, ◌≤◌, ◌≡◌, refl, ◌⊎◌, true, false, List, [], ◌∷◌, ◌++◌, length, get_or, Ok}
 use Rattle.std.proofs.Common.{sym, ap, ◌∙◌, subst, inl, inr, arith, length-append}
 use Rattle.std.proofs.lemmas.List.{length-replicate}
 use Rattle.examples.specs.Sheets.{bytes}
 use Rattle.value_sets.specs.Sets.{set_ok}
-use Rattle.formula.specs.declared.Verdict.TheVariants.{Passed}
 use Rattle.formula.specs.Sheet.{fields_of}
 use Rattle.formula.specs.Tests.{lowest_from, verdict_of}
 use Rattle.formula.specs.Tree.{formula_of}
@@ -28,7 +27,7 @@ use Rattle.demand_tags.proofs.FirstPush.{first-push, first-set}
 use Rattle.demand_tags.proofs.TaggedStart.{start-begins, out_of_order}
 use Rattle.demand_tags.specs.IdentifierTagged.{identifier, one_whole, begun, seven, push_seven, pushed_seven, take_seven, HandsOut}
 
-passed : verdict_of (bytes identifier) one_whole ≡ Passed
+passed : verdict_of (bytes identifier) one_whole ≡ Ok tt
 unfolding verdict_of bytes identifier
 passed = refl
 

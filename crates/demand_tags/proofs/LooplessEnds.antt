@@ -1,11 +1,10 @@
 -- Direct evaluation of a sheet without for ends, with however many rounds, on each set that can be read (meaning/specs/Loopless). Assumes an admissible sheet with a
 -- kinds line that passes 17 and 18.
-use Rattle.std.specs.Prelude.{ℕ, ◌≡◌, refl, List}
+use Rattle.std.specs.Prelude.{ℕ, ◌≡◌, refl, List, Ok}
 use Rattle.std.proofs.Common.{ap, ◌∙◌}
 use Rattle.std.proofs.Math.Option.{some}
 use Rattle.value.specs.declared.Value.{Value}
 use Rattle.value_sets.specs.Sets.{set_values}
-use Rattle.formula.specs.declared.Verdict.TheVariants.{Passed}
 use Rattle.formula.specs.Tree.{formula_of}
 use Rattle.formula.specs.Free.{free_e}
 use Rattle.formula.specs.Faults.{letters_of}
@@ -17,7 +16,7 @@ use Rattle.meaning.proofs.Loopless.{loopless-ends}
 use Rattle.demand.specs.Claim.{Enough}
 use Rattle.demand.proofs.Evaluations.{evaluation-concludes}
 
-yields-passes : (rounds : ℕ) (vs : List Value) (left : ℕ) → (concluded rounds (yields vs left)).verdict ≡ Passed
+yields-passes : (rounds : ℕ) (vs : List Value) (left : ℕ) → (concluded rounds (yields vs left)).verdict ≡ Ok tt
 unfolding concluded
 yields-passes rounds vs left = refl
 

@@ -4,7 +4,6 @@ use Rattle.std.specs.Prelude.{ℕ, ◌≤◌, ◌≡◌, refl, ◌⊎◌, true, 
 use Prim.Native.String.{String}
 use Rattle.examples.specs.Sheets.{bytes}
 use Rattle.value_sets.specs.Sets.{set_ok}
-use Rattle.formula.specs.declared.Verdict.TheVariants.{Passed}
 use Rattle.formula.specs.Sheet.{fields_of}
 use Rattle.formula.specs.Tests.{lowest_from, verdict_of}
 use Rattle.formula.specs.Tree.{formula_of}

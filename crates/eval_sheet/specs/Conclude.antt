@@ -1,18 +1,13 @@
 -- From the code's steps to the definition of an evaluation (meaning's specs/Evaluate): what each of its endings is.
 -- Assumes an accepted sheet's formula row.
-use Rattle.std.specs.Prelude.{ℕ, suc, ◌+◌, ◌-◌, ◌≤◌, ◌<◌, ◌≡◌, refl, true, false, List, [], ◌∷◌, ◌++◌, map, length, get_or, set, take, drop, replicate}
-use Rattle.std.proofs.Common.{sym, ap, ◌∙◌, subst, append-nil, drop_of_length-le, take_all, arith, add-one}
-use Rattle.std.proofs.lemmas.List.{length-map}
-use Rattle.std.proofs.Math.ListN.{get_or-map}
-use Rattle.std.proofs.Math.Seq.{paste, paste-suc}
-use Rattle.value.specs.declared.Value.{Value}
+use Rattle.std.specs.Prelude.{ℕ, ◌-◌, ◌≤◌, ◌≡◌, true, false, List, map, length, replicate, Some, None, Ok}
+use Rattle.std.proofs.Common.{sym, ap, ◌∙◌, subst, arith}
 use Rattle.names.specs.Names.{mask}
 use Rattle.formula.specs.declared.Refusal.TheVariants.{Set, Unfinished}
-use Rattle.formula.specs.declared.Verdict.{Verdict}
-use Rattle.formula.specs.declared.Verdict.TheVariants.{Passed}
+use Rattle.formula.specs.Results.{Verdict}
 use Rattle.formula.specs.Tree.{Exp, exp_of}
 use Rattle.formula.specs.Free.{free_e, inputs_of}
-use Rattle.meaning.specs.Meaning.{Env, bind, Outcome, yields, inputs_hold, eval_e}
+use Rattle.meaning.specs.Meaning.{Env, Outcome, eval_e}
 use Rattle.meaning.specs.Rounds.{Within}
 use Rattle.meaning.proofs.Rounds.{within}
 use Rattle.meaning.specs.Rows.{ExpRow}
@@ -24,12 +19,11 @@ use Rattle.value_sets.proofs.Sets.{set_values_lem, no-set}
 use Rattle.eval_words.specs.Inputs.{inputs-below}
 use Rattle.eval_words.specs.Words.{held_of, env_of, zeros-err}
 use Rattle.eval_words.specs.Needs.{W, narrow}
-use Rattle.eval_cycle.specs.declared.Rest.TheVariants.{Left, Short}
 use Rattle.eval_cycle.specs.Told.{Told, Values, told-left, told-short, read, counted}
 use Rattle.eval_sheet.specs.Inputs.{Holds, holds-inputs, cells_are}
 
 -- Rounds left are at most those lent.
-pub left-within : (x : Exp) (env : Env) (rounds l at : ℕ) (o o' : List ℕ) → Told (eval_e x env rounds) (Left l) at o o' → l ≤ rounds
+pub left-within : (x : Exp) (env : Env) (rounds l at : ℕ) (o o' : List ℕ) → Told (eval_e x env rounds) (Some l) at o o' → l ≤ rounds
 left-within x env rounds l at o o' h =
     let v : Values (eval_e x env rounds) l at o o' = told-left _ l at o o' h in
     subst (Within rounds) v.is (within x env rounds)
@@ -49,7 +43,7 @@ evaluated-good x kinds bytes rounds env c h k =
     ap (λ (f : Env). concluded rounds (eval_e x f rounds)) (holds-inputs x kinds bytes r.0 env (c ∙ inputs-below x) r.1 k)
     ∙ ap (evaluated_with x rounds) (sym r.1.values)
 
-pub concluded-short : (o : Outcome) (rounds at : ℕ) (b a : List ℕ) → Told o Short at b a → refused Unfinished 0 ≡ concluded rounds o
+pub concluded-short : (o : Outcome) (rounds at : ℕ) (b a : List ℕ) → Told o None at b a → refused Unfinished 0 ≡ concluded rounds o
 unfolding concluded
 concluded-short o rounds at b a h = ap (concluded rounds) (sym (told-short o at b a h))
 
@@ -59,8 +53,8 @@ pub made : (e : Evaluation) (cs : List Cell) (w k : ℕ) (v : Verdict) → e.cel
 made e cs w k v p q r s = λ i. record { cells = p i; width = q i; rounds = r i; verdict = s i }
 
 pub concluded-left : (t ws : List ℕ) (n : ℕ) → ExpRow t ws n → (env : Env) (rounds l : ℕ) (a : List ℕ) (e : Evaluation)
-    → Told (eval_e (exp_of t n) env rounds) (Left l) 0 (replicate 16 0) a → length a ≡ 16
-    → e.cells ≡ map (λ z. cell (held_of z)) a → e.width ≡ W ws n → e.rounds ≡ rounds - l → e.verdict ≡ Passed
+    → Told (eval_e (exp_of t n) env rounds) (Some l) 0 (replicate 16 0) a → length a ≡ 16
+    → e.cells ≡ map (λ z. cell (held_of z)) a → e.width ≡ W ws n → e.rounds ≡ rounds - l → e.verdict ≡ Ok tt
     → e ≡ concluded rounds (eval_e (exp_of t n) env rounds)
 unfolding concluded cells_of env_of
 concluded-left t ws n row env rounds l a e h long c w r v =
@@ -69,29 +63,5 @@ concluded-left t ws n row env rounds l a e h long c w r v =
     let cells : map (λ z. cell (held_of z)) a ≡ cells_of vs.values =
     cells_are 16 a vs.values long (omega (arith, m, narrow t ws n row)) (λ k. read vs (zeros-err 16) k)
     in
-    made e (cells_of vs.values) (length vs.values) (rounds - l) Passed (c ∙ cells) (w ∙ sym m) r v
+    made e (cells_of vs.values) (length vs.values) (rounds - l) (Ok tt) (c ∙ cells) (w ∙ sym m) r v
     ∙ ap (concluded rounds) (sym vs.is)
-
--- ---- the array of cells
-
-pub cells-more : (c₀ : List Cell) (out : List ℕ) (i : ℕ) (v : Value) → i < 16 → length out ≡ 16 → length c₀ ≡ 16
-    → v ≡ held_of (get_or out i 0)
-    → set (paste c₀ 0 (map (λ z. cell (held_of z)) out) i) i (cell v) ≡ paste c₀ 0 (map (λ z. cell (held_of z)) out) (i + 1)
-cells-more c₀ out i v l p q e =
-    let s : List Cell = map (λ z. cell (held_of z)) out in
-    let k : i < length s = omega (arith, length-map out (λ z. cell (held_of z))) in
-    let d : get_or s i (cell (held_of 0)) ≡ cell v = get_or-map (λ z. cell (held_of z)) out i 0 ∙ ap cell (sym e) in
-    let z : 0 + i ≡ i = omega arith in
-    let u : suc i ≡ i + 1 = omega arith in
-    ap (λ (y : Cell). set (paste c₀ 0 s i) i y) (sym d)
-    ∙ ap (λ (j : ℕ). set (paste c₀ 0 s i) j (get_or s i (cell (held_of 0)))) (sym z)
-    ∙ paste-suc c₀ 0 s i (cell (held_of 0)) (omega arith) k
-    ∙ ap (paste c₀ 0 s) u
-
-pub cells_whole : (c₀ : List Cell) (out : List ℕ) → length out ≡ 16 → length c₀ ≡ 16
-    → paste c₀ 0 (map (λ z. cell (held_of z)) out) 16 ≡ map (λ z. cell (held_of z)) out
-cells_whole c₀ out p q =
-    let s : List Cell = map (λ z. cell (held_of z)) out in
-    let a : take 16 s ≡ s = take_all 16 s (omega (arith, length-map out (λ z. cell (held_of z)))) in
-    let b : drop 16 c₀ ≡ [] = drop_of_length-le c₀ {i = 16} (omega arith) in
-    (λ i. a i ++ b i) ∙ append-nil s

@@ -1,14 +1,13 @@
 -- From the reader's tables to the evaluator's needs: the last row of an accepted sheet's tables is the formula, with its width
 -- and its free names, and its kinds line has a letter for each input; and an evaluation by the reader's verdict (meaning's
 -- specs/Evaluate). Assumes what the reader promises (sheet_read's specs/Reading).
-use Rattle.std.specs.Prelude.{ℕ, zero, suc, ◌*◌, ◌-◌, ◌≤◌, ◌≡◌, true, List, [], ◌∷◌, get_or, take}
+use Rattle.std.specs.Prelude.{ℕ, zero, suc, ◌*◌, ◌-◌, ◌≤◌, ◌≡◌, true, List, [], ◌∷◌, get_or, take, Ok}
 use Rattle.std.proofs.Common.{sym, ◌∙◌, subst, arith, length-take-le}
 use Rattle.std.proofs.Math.Path.{ap}
 use Rattle.std.proofs.Math.ListN.{length}
 use Rattle.names.specs.Names.{mask}
 use Rattle.formula.specs.declared.Refusal.{Refusal}
-use Rattle.formula.specs.declared.Verdict.{Verdict}
-use Rattle.formula.specs.declared.Verdict.TheVariants.{Passed, Refused}
+use Rattle.formula.specs.Results.{Verdict, refused as refusing}
 use Rattle.formula.specs.Sheet.{row_count, fields_of}
 use Rattle.formula.proofs.SheetLaws.{fields-length}
 use Rattle.formula.specs.Tree.{Exp, exp_of, formula_of}
@@ -27,7 +26,7 @@ taken-long zero l h = omega arith
 taken-long (suc n) [] h = absurd (omega (arith, h))
 taken-long (suc n) (k ∷ l) h = omega (arith, taken-long n l (omega (arith, h)))
 
-module _ (s line : List ℕ) (x : Tables) (told : Told s line x) (well : x.verdict ≡ Passed) where
+module _ (s line : List ℕ) (x : Tables) (told : Told s line x) (well : x.verdict ≡ Ok tt) where
   ok : Accepts s x
   ok = told.accepts well
 
@@ -88,6 +87,6 @@ module _ (s line : List ℕ) (x : Tables) (told : Told s line x) (well : x.verdi
         ∙ ap (λ (w : Verdict). after_verdict w (evaluated (formula_of s) (letters_of (formula_of s) line) set rounds)) (sym well ∙ told.verdict)
 
 -- A refused sheet's evaluation.
-pub refused-is : (s line set : List ℕ) (rounds : ℕ) (r : Refusal) (row : ℕ) → verdict_of s line ≡ Refused r row → refused r row ≡ evaluation_of s line set rounds
+pub refused-is : (s line set : List ℕ) (rounds : ℕ) (r : Refusal) (row : ℕ) → verdict_of s line ≡ refusing r row → refused r row ≡ evaluation_of s line set rounds
 unfolding evaluation_of
 refused-is s line set rounds r row v = ap (λ (w : Verdict). after_verdict w (evaluated (formula_of s) (letters_of (formula_of s) line) set rounds)) (sym v)

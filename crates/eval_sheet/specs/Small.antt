@@ -1,11 +1,10 @@
 -- The numbers of an evaluation fit the firmware's answer: a row at fault is at most 200, a width at most 16. Assumes nothing.
-use Rattle.std.specs.Prelude.{ℕ, zero, suc, ◌≤◌, ◌<◌, ◌≡◌, refl, Bool, true, false, List, length}
+use Rattle.std.specs.Prelude.{ℕ, zero, suc, ◌≤◌, ◌<◌, ◌≡◌, refl, Bool, true, false, List, length, Ok, Err}
 use Rattle.std.proofs.Common.{sym, ap, ◌∙◌, subst, arith}
 use Rattle.std.proofs.Math.Option.{Option, some, none}
 use Rattle.value.specs.declared.Value.{Value}
 use Rattle.formula.specs.declared.Refusal.{Refusal}
-use Rattle.formula.specs.declared.Verdict.{Verdict}
-use Rattle.formula.specs.declared.Verdict.TheVariants.{Passed, Refused}
+use Rattle.formula.specs.Results.{Verdict, refused}
 use Rattle.formula.specs.Tree.{Exp, identifier, constant, pair, operator, let_e, if_e, for_e, formula_of}
 use Rattle.formula.specs.Free.{free_e}
 use Rattle.formula.specs.Widths.{width}
@@ -21,8 +20,8 @@ use Rattle.meaning.specs.Evaluate.{concluded, evaluated_with, evaluated, after_v
 use Rattle.value_sets.specs.Sets.{set_values}
 
 abbrev row_in : Verdict → ℕ
-row_in Passed = 0
-row_in (Refused r row) = row
+row_in (Ok _) = 0
+row_in (Err why) = why.row
 
 -- "No width above 16".
 sound-narrow : (x : Exp) → SoundE x → width x ≤ 16
@@ -55,8 +54,8 @@ unfolding evaluation_of
 narrow-width s line set rounds = go (verdict_of s line) refl
   where
     go : (v : Verdict) → verdict_of s line ≡ v → (after_verdict v (evaluated (formula_of s) (letters_of (formula_of s) line) set rounds)).width ≤ 16
-    go Passed e = evaluated-narrow (formula_of s) (formula-sound s (passed-admissible s line e)) (letters_of (formula_of s) line) set rounds
-    go (Refused r row) e = omega arith
+    go (Ok _) e = evaluated-narrow (formula_of s) (formula-sound s (passed-admissible s line e)) (letters_of (formula_of s) line) set rounds
+    go (Err why) e = omega arith
 
 concluded-row : (rounds : ℕ) (o : Outcome) → row_in (concluded rounds o).verdict ≡ 0
 unfolding concluded
@@ -76,8 +75,8 @@ unfolding evaluation_of
 low-fault s line set rounds = go (verdict_of s line) refl
   where
     go : (v : Verdict) → verdict_of s line ≡ v → row_in (after_verdict v (evaluated (formula_of s) (letters_of (formula_of s) line) set rounds)).verdict ≤ 200
-    go Passed e = omega (arith, evaluated-row (formula_of s) (letters_of (formula_of s) line) set rounds)
-    go (Refused r row) e = low-row s line r row e
+    go (Ok _) e = omega (arith, evaluated-row (formula_of s) (letters_of (formula_of s) line) set rounds)
+    go (Err why) e = low-row s line why.refusal why.row e
 
-pub low-row-of : (s line set : List ℕ) (rounds : ℕ) (r : Refusal) (row : ℕ) → (evaluation_of s line set rounds).verdict ≡ Refused r row → row ≤ 200
+pub low-row-of : (s line set : List ℕ) (rounds : ℕ) (r : Refusal) (row : ℕ) → (evaluation_of s line set rounds).verdict ≡ refused r row → row ≤ 200
 low-row-of s line set rounds r row h = subst (λ (v : Verdict). row_in v ≤ 200) h (low-fault s line set rounds)

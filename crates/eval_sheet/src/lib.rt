@@ -9,10 +9,11 @@ ghost use Rattle.eval_sheet.specs.Handed.{answers, handed, written, handed_out};
 
 use crate::row::{evaluate_row, refuse};
 use eval_words::inputs::inputs_in;
-use formula::{Refusal, Verdict, refusal_number};
+use formula::{Refusal, Refused};
 use meaning::{Cell, Evaluation};
-use sheet_fields::blank;
-use sheet_read::read::{Tested, fill_tables};
+use sheet_fields::layout::MOST_ROWS;
+use sheet_fields::shape::MOST_FIELDS;
+use sheet_read::read::fill_tables;
 
 mod row; // row.rt: the evaluation of an accepted row on a set
 
@@ -30,13 +31,13 @@ pub struct EvaluateAnswer {
 pub fn evaluate(sheet: &[u8], line: &[u8], set: &[u8], rounds: u32) -> Evaluation
     ensures { result ≡ evaluation_of sheet.now line.now set.now rounds }
 {
-    let mut fields = blank::fields();
-    let mut returned = blank::bytes();
-    let mut masks = blank::words();
+    let mut fields = [0u32; MOST_FIELDS];
+    let mut returned = [0u8; MOST_ROWS];
+    let mut masks = [0u64; MOST_ROWS];
     let tested = fill_tables(sheet, line, &mut fields, &mut returned, &mut masks);
     match tested {
-        Tested::Refused(r, row) => refuse(r, row),
-        Tested::Passed(_) => {
+        Err(Refused { refusal, row }) => refuse(refusal, row),
+        Ok(_) => {
             let n = sheet.len() / 31;
             let end = 5 * n;
             let last = n - 1;
@@ -59,7 +60,7 @@ fn refused(r: Refusal, row: u32) -> EvaluateAnswer
     ensures { result ≡ answers (number_of r) row 0 0 }
 {
     EvaluateAnswer {
-        refusal: refusal_number(r),
+        refusal: u32::from(r),
         row,
         width: 0,
         rounds: 0,
@@ -71,12 +72,8 @@ fn write_cells(cells: [Cell; 16], out: &mut [u8])
     requires { 80 ≤ length out.old }
     ensures { out.new ≡ written 16 cells out.old }
 {
-    let mut j = 0;
-    while j < 16 {
-        let c = cells[j];
-        let v = c.v;
-        value::bytes::store(out, 5 * j, value::bytes::to_word(v));
-        j += 1;
+    for (j, c) in cells.iter().enumerate() {
+        value::bytes::store(out, 5 * j, value::bytes::to_word(c.v));
     }
 }
 
@@ -96,8 +93,8 @@ pub fn evaluate_into(
     let e = evaluate(sheet, line, set, rounds);
     let verdict = e.verdict;
     match verdict {
-        Verdict::Refused(r, row) => refused(r, row as u32),
-        Verdict::Passed => {
+        Err(Refused { refusal, row }) => refused(refusal, row as u32),
+        Ok(()) => {
             let cells = e.cells;
             write_cells(cells, out);
             EvaluateAnswer {

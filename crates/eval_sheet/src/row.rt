@@ -1,6 +1,6 @@
 // The evaluation of an accepted sheet's tables on a set (meaning's specs/Evaluate): 12 for a set that is none, 36 where more
 // rounds are needed than lent, else the result set with the rounds used.
-ghost use Rattle.std.specs.Prelude.{◌≡◌, map, ℕ, ◌+◌, ◌*◌, ◌-◌, ◌≤◌, ◌<◌, length};
+ghost use Rattle.std.specs.Prelude.{◌≡◌, map, ℕ, ◌+◌, ◌*◌, ◌-◌, ◌≤◌, ◌<◌, length, Ok};
 ghost use Rattle.names.specs.Names.{mask};
 ghost use Rattle.formula.specs.Tree.{exp_of};
 ghost use Rattle.formula.specs.Free.{free_e, inputs_of};
@@ -9,11 +9,10 @@ ghost use Rattle.eval_words.specs.Words.{held_of};
 ghost use Rattle.meaning.specs.Evaluate.{cell, refused, evaluated};
 ghost use Rattle.eval_sheet.specs.Inputs.{Holds, word_or};
 
-use eval_cycle::Rest;
 use eval_cycle::cycle::expr;
 use eval_words::inputs::next;
 use eval_words::words::held;
-use formula::{Refusal, Verdict};
+use formula::{Refusal, Refused};
 use meaning::{Cell, Evaluation};
 use sheet_fields::shape::width_at;
 
@@ -27,7 +26,7 @@ pub fn refuse(r: Refusal, row: usize) -> Evaluation
         cells,
         width: 0,
         rounds: 0,
-        verdict: Verdict::Refused(r, row),
+        verdict: Err(Refused { refusal: r, row }),
     }
 }
 
@@ -37,9 +36,10 @@ fn word_or(set: &[u8], n: usize, i: usize) -> u64
     ensures { result ≡ word_or set.now n i }
 {
     if i < n {
-        return value::bytes::load(set, 5 * i);
+        value::bytes::load(set, 5 * i)
+    } else {
+        0
     }
-    0
 }
 
 // The set's values at the identifiers of the mask, rising.
@@ -47,32 +47,23 @@ fn hold(env: &mut [u64], m: u64, set: &[u8], n: usize)
     requires { (length env.old ≡ 32) × (length set.now ≡ 5 * n) × (n ≤ 64) }
     ensures { Holds set.now n m env.new 32 }
 {
-    let mut k = 0;
     let mut i = 0;
-    while k < 32 {
+    for k in 0..32 {
         env[k] = word_or(set, n, i);
         i = next(m, k, i);
-        k += 1;
     }
 }
 
 // The result set of the words, w of them used, after `used` rounds.
-fn conclude(out: &[u64], w: usize, used: u32) -> Evaluation
+fn conclude(out: &[u64; 16], w: usize, used: u32) -> Evaluation
     requires { length out.now ≡ 16 }
-    ensures { (result.cells ≡ map (λ z. cell (held_of z)) out.now) × (result.width ≡ w) × (result.rounds ≡ used) × (result.verdict ≡ Verdict.Passed) }
+    ensures { (result.cells ≡ map (λ z. cell (held_of z)) out.now) × (result.width ≡ w) × (result.rounds ≡ used) × (result.verdict ≡ Ok tt) }
 {
-    let c = Cell { v: value::err() };
-    let mut cells = [c; 16];
-    let mut i = 0;
-    while i < 16 {
-        cells[i] = Cell { v: held(out[i]) };
-        i += 1;
-    }
     Evaluation {
-        cells,
+        cells: out.map(|w| Cell { v: held(w) }),
         width: w,
         rounds: used,
-        verdict: Verdict::Passed,
+        verdict: Ok(()),
     }
 }
 
@@ -96,7 +87,7 @@ pub fn evaluate_row(
     hold(&mut env, free, set, kinds.len());
     let mut out = [0; 16];
     match expr(t, widths, n, &env, &mut out, 0, rounds) {
-        Rest::Short => refuse(Refusal::Unfinished, 0),
-        Rest::Left(l) => conclude(&out, width_at(widths, n), rounds - l),
+        Some(left) => conclude(&out, width_at(widths, n), rounds - left),
+        None => refuse(Refusal::Unfinished, 0),
     }
 }

@@ -1,38 +1,35 @@
 -- Values as words of the byte form (value's specs/Bytes), in the arrays that the evaluators lend one another: an array of
 -- words holds an environment. A word that is no value counts as err, so that an array of zeros holds err everywhere.
 -- Assumes nothing.
-use Rattle.std.specs.Prelude.{ℕ, zero, suc, ◌+◌, ◌-◌, ◌≤◌, ◌<◌, ◌≡◌, refl, List, [], ◌∷◌, ◌++◌, ltb, length, get_or, set, take, drop, replicate}
-use Rattle.std.proofs.Common.{sym, ◌∙◌, subst, append_assoc, get_or-append-add, get_or-set_same, get_or-set_other, get_or-take, get_or-drop, length-take-le, ltb-true, ltb-false, arith}
+use Rattle.std.specs.Prelude.{ℕ, zero, suc, ◌+◌, ◌-◌, ◌≤◌, ◌<◌, ◌≡◌, refl, List, [], ◌∷◌, ◌++◌, length, get_or, set, take, drop, replicate, Some, None}
+use Rattle.std.proofs.Common.{sym, ◌∙◌, subst, append_assoc, get_or-append-add, get_or-set_same, get_or-set_other, get_or-take, get_or-drop, length-take-le, arith}
 use Rattle.std.proofs.Math.Path.{ap}
 use Rattle.std.proofs.Math.Option.{Option, some, none}
 use Rattle.std.proofs.Math.ListN.{get_or-append}
-use Rattle.std.proofs.lemmas.List.{get_or-replicate}
+use Rattle.std.proofs.lemmas.List.{get_or-replicate, length-replicate}
 use Rattle.std.proofs.Math.Seq.{paste}
+use Rattle.std.specs.Prelude as std
 use Rattle.value.specs.declared.Value.{Value}
-use Rattle.value.specs.declared.Decoded.{Decoded}
-use Rattle.value.specs.declared.Decoded.TheVariants.{Valid, Invalid}
 use Rattle.value.specs.Bytes.{InRange, word_of, value_of, decoded}
 use Rattle.value.proofs.Words.{value-of-word, word-of-value}
 use Rattle.value.specs.Operators.{apply}
 use Rattle.value.specs.declared.Sense.{Sense}
 use Rattle.value.specs.declared.Sense.TheVariants.{True, False, Neither}
 use Rattle.value.specs.Senses.{err, sense, only-one-true, only-one-false}
-use Rattle.meaning.specs.Meaning.{Env, bind, Outcome, yields, then}
+use Rattle.meaning.specs.Meaning.{Env, bind, Outcome, yields}
 use Rattle.meaning.proofs.Binding.{bind_is}
-use Rattle.eval_words.specs.declared.Single.{Single}
-use Rattle.eval_words.specs.declared.Single.TheVariants.{Word, Short}
 
 abbrev pub or_err : Option Value → Value
 or_err (some v) = v
 or_err none = err
 
-abbrev value_in : Decoded → Value
-value_in (Valid v) = v
-value_in Invalid = err
+abbrev value_in : std.Option Value → Value
+value_in (Some v) = v
+value_in None = err
 
-abbrev Is-Invalid : Decoded → Type 0
-Is-Invalid (Valid v) = ⊥
-Is-Invalid Invalid = Unit {0}
+abbrev Is-None : std.Option Value → Type 0
+Is-None (Some v) = ⊥
+Is-None None = Unit {0}
 
 -- The value of a word.
 unfoldable pub held_of : ℕ → Value
@@ -46,20 +43,20 @@ pub held_word : (v : Value) → InRange v → held_of (word_of v) ≡ v
 unfolding held_of
 held_word v h = ap or_err (value-of-word v h)
 
-pub held-valid : (w : ℕ) (v : Value) → decoded (value_of w) ≡ Valid v → held_of w ≡ v
+pub held-some : (w : ℕ) (v : Value) → decoded (value_of w) ≡ Some v → held_of w ≡ v
 unfolding held_of
-held-valid w v = go (value_of w)
+held-some w v = go (value_of w)
   where
-    go : (o : Option Value) → decoded o ≡ Valid v → or_err o ≡ v
+    go : (o : Option Value) → decoded o ≡ Some v → or_err o ≡ v
     go (some u) e = ap value_in e
-    go none e = absurd (subst Is-Invalid e tt)
+    go none e = absurd (subst Is-None e tt)
 
-pub held-invalid : (w : ℕ) → decoded (value_of w) ≡ Invalid → held_of w ≡ err
+pub held-none : (w : ℕ) → decoded (value_of w) ≡ None → held_of w ≡ err
 unfolding held_of
-held-invalid w = go (value_of w)
+held-none w = go (value_of w)
   where
-    go : (o : Option Value) → decoded o ≡ Invalid → or_err o ≡ err
-    go (some u) e = absurd (subst Is-Invalid (sym e) tt)
+    go : (o : Option Value) → decoded o ≡ None → or_err o ≡ err
+    go (some u) e = absurd (subst Is-None (sym e) tt)
     go none e = refl
 
 pub held-zero : held_of 0 ≡ err
@@ -157,44 +154,20 @@ module _ (l : List ℕ) (at : ℕ) (s : List ℕ) (n : ℕ) (room : at + n ≤ l
       (λ k p. ap held_of (paste-before k p))
       (λ k p. ap held_of (paste-behind k p))
 
-pub errs-binds : (l : List ℕ) (at n w : ℕ) → held_of w ≡ err → at + n ≤ length l → n ≤ 16
-    → env_of (paste l at (replicate 16 w) n) ≡ bind at n (replicate n err) (env_of l)
+pub errs-binds : (l : List ℕ) (at n w : ℕ) → held_of w ≡ err → at + n ≤ length l
+    → env_of (paste l at (replicate n w) n) ≡ bind at n (replicate n err) (env_of l)
 unfolding env_of
-errs-binds l at n w e h i =
-    paste-binds l at (replicate 16 w) n h i (replicate n err)
-    (λ j p. ap held_of (get_or-replicate 16 j w 0 (omega arith)) ∙ e ∙ sym (get_or-replicate n j err err p))
+errs-binds l at n w e h =
+    paste-binds l at (replicate n w) n h (omega (arith, length-replicate n w)) (replicate n err)
+    (λ j p. ap held_of (get_or-replicate n j w 0 p) ∙ e ∙ sym (get_or-replicate n j err err p))
 
 -- ---- rows of width one
 
--- What a row's answer says of its value.
-abbrev pub outcome_of : Single → Outcome
-outcome_of (Word w left) = yields (held_of w ∷ []) left
-outcome_of Short = Outcome.unfinished
+-- What a row's answer, its word with the rounds left, says of its value.
+abbrev pub outcome_of : std.Option (ℕ × ℕ) → Outcome
+outcome_of (Some p) = yields (held_of p.0 ∷ []) p.1
+outcome_of None = Outcome.unfinished
 
 -- "every operand .. is evaluated": what an operator makes of its operands' values.
 abbrev pub applying : ℕ → List Value → ℕ → Outcome
 applying code vs left = yields (apply code (get_or vs 0 err) (get_or vs 1 err) ∷ []) left
-
-pub applied-word : (code a w left : ℕ) (s : Single) → s ≡ Word a left → held_of w ≡ apply code (held_of a) (held_of 0)
-    → then (outcome_of s) (applying code) ≡ outcome_of (Word w left)
-unfolding then
-applied-word code a w left s e h =
-    ap (λ (z : Single). then (outcome_of z) (applying code)) e
-    ∙ ap (λ (v : Value). yields (apply code (held_of a) v ∷ []) left) (sym held-zero)
-    ∙ ap (λ (v : Value). yields (v ∷ []) left) (sym h)
-
-pub applied-short : (code : ℕ) (s : Single) → s ≡ Short → then (outcome_of s) (applying code) ≡ outcome_of Short
-unfolding then
-applied-short code s e = ap (λ (z : Single). then (outcome_of z) (applying code)) e
-
-pub applied-to-word : (code a b w left : ℕ) (s : Single) → s ≡ Word b left → held_of w ≡ apply code (held_of a) (held_of b)
-    → then (then (outcome_of s) (λ vs l. yields (held_of a ∷ vs) l)) (applying code) ≡ outcome_of (Word w left)
-unfolding then
-applied-to-word code a b w left s e h =
-    ap (λ (z : Single). then (then (outcome_of z) (λ vs l. yields (held_of a ∷ vs) l)) (applying code)) e
-    ∙ ap (λ (v : Value). yields (v ∷ []) left) (sym h)
-
-pub applied-to-short : (code a : ℕ) (s : Single) → s ≡ Short
-    → then (then (outcome_of s) (λ vs l. yields (held_of a ∷ vs) l)) (applying code) ≡ outcome_of Short
-unfolding then
-applied-to-short code a s e = ap (λ (z : Single). then (then (outcome_of z) (λ vs l. yields (held_of a ∷ vs) l)) (applying code)) e

@@ -15,8 +15,5 @@ pub fn next(m: u64, k: usize, i: usize) -> usize
     requires { (k < 33) × (i ≤ 64) }
     ensures { (result ≡ i + bit (set_in m k)) × (result ≤ i + 1) }
 {
-    if names::has(m, k as u32) {
-        return i + 1;
-    }
-    i
+    i + usize::from(names::has(m, k as u32))
 }

@@ -5,13 +5,6 @@ pub mod inputs; // inputs.rt: a formula's inputs by the mask of its free names
 pub mod parts; // parts.rt: what the value of a row of width one is made of
 pub mod words; // words.rt: values as words in lent arrays
 
-// The value of a row of width one: its word with the rounds left, or more rounds are needed than were lent.
-#[derive(Clone, Copy)]
-pub enum Single {
-    Word(u64, u32),
-    Short,
-}
-
 // A row of width one: a value, an operator on one row or on two rows of width one, an operator on a row of width two, or a
 // row of another kind.
 #[derive(Clone, Copy)]

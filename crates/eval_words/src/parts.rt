@@ -18,16 +18,12 @@ fn operator_at(t: &[u32], widths: &[u8], code: u32, b: usize) -> Part
     if width_at(widths, b) == 1 {
         return Part::One(code, b);
     }
-    let Shape::Pair(x, y) = shape_at(t, b) else {
-        return Part::Wide(code, b);
-    };
-    if width_at(widths, x) != 1 {
-        return Part::Wide(code, b);
+    match shape_at(t, b) {
+        Shape::Pair(x, y) if width_at(widths, x) == 1 && width_at(widths, y) == 1 => {
+            Part::Two(code, x, y)
+        }
+        _ => Part::Wide(code, b),
     }
-    if width_at(widths, y) != 1 {
-        return Part::Wide(code, b);
-    }
-    Part::Two(code, x, y)
 }
 
 // Row r, whose identifiers are bound in `env`.
@@ -38,11 +34,11 @@ pub fn part_at(t: &[u32], widths: &[u8], r: usize, env: &[u64; 32]) -> Part
     match shape_at(t, r) {
         Shape::Identifier(a) => Part::Value(env[a as usize]),
         Shape::Constant(kind, a) => Part::Value(constant_word(kind, a)),
-        Shape::Pair(_, _) => Part::Other,
         Shape::Operator(code, b) => operator_at(t, widths, code, b),
-        Shape::Let(_, _, _, _) => Part::Other,
-        Shape::If(_, _, _) => Part::Other,
-        Shape::For(_, _, _, _) => Part::Other,
-        Shape::Iter(_) => Part::Other,
+        Shape::Pair(_, _)
+        | Shape::Let(_, _, _, _)
+        | Shape::If(_, _, _)
+        | Shape::For(_, _, _, _)
+        | Shape::Iter(_) => Part::Other,
     }
 }

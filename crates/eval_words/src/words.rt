@@ -1,24 +1,24 @@
 // Values as words in lent arrays (specs/Words): each function that writes says what its array holds afterwards, as a binding of the
 // values it wrote over what the array held before.
-ghost use Rattle.std.specs.Prelude.{◌≡◌, [], ◌∷◌, ℕ, ◌+◌, ◌≤◌, ◌<◌, length, replicate};
+ghost use Rattle.std.specs.Prelude.{◌≡◌, ℕ, ◌+◌, ◌≤◌, ◌<◌, length, replicate};
 ghost use Rattle.std.proofs.Math.Seq.{paste};
 ghost use Rattle.value.specs.Bytes.{InRange};
 ghost use Rattle.value.specs.Operators.{apply};
 ghost use Rattle.value.specs.Senses.{err, sense};
 ghost use Rattle.formula.specs.Constants.{constant_value, constant_most};
-ghost use Rattle.meaning.specs.Meaning.{bind, yields, then};
-ghost use Rattle.eval_words.specs.Words.{held_of, env_of, outcome_of, applying};
+ghost use Rattle.meaning.specs.Meaning.{bind};
+ghost use Rattle.eval_words.specs.Words.{held_of, env_of};
 
-use crate::Single;
-use value::{Decoded, Sense, Value};
+use value::bytes::{ERR, FALSE, TRUE};
+use value::{Sense, Value};
 
 // The value of a word.
 pub fn held(w: u64) -> Value
     ensures { result ≡ held_of w }
 {
     match value::bytes::from_word(w) {
-        Decoded::Valid(v) => v,
-        Decoded::Invalid => value::err(),
+        Some(v) => v,
+        None => value::err(),
     }
 }
 
@@ -30,13 +30,6 @@ fn word(v: Value) -> u64
     value::bytes::to_word(v)
 }
 
-pub fn put_word(out: &mut [u64], at: usize, w: u64)
-    requires { at < length out.old }
-    ensures { (env_of out.new ≡ bind at 1 (held_of w ∷ []) (env_of out.old)) × (length out.new ≡ length out.old) }
-{
-    out[at] = w;
-}
-
 // A word of the operator of a code on the values of two words. The operators on numbers are called apart: they are what loops count with.
 pub fn operated(code: u32, a: u64, b: u64) -> u64
     requires { code < 256 }
@@ -46,28 +39,6 @@ pub fn operated(code: u32, a: u64, b: u64) -> u64
     match c {
         1..=7 => word(value::apply_numbers(c, held(a), held(b))),
         _ => word(value::apply_code(c, held(a), held(b))),
-    }
-}
-
-// The operator of a code on one operand.
-pub fn applied(code: u32, operand: Single) -> Single
-    requires { code < 256 }
-    ensures { then (outcome_of operand) (applying code) ≡ outcome_of result }
-{
-    match operand {
-        Single::Word(a, left) => Single::Word(operated(code, a, 0), left),
-        Single::Short => Single::Short,
-    }
-}
-
-// The operator of a code on the value of a word and a second operand.
-pub fn applied_to(code: u32, a: u64, second: Single) -> Single
-    requires { code < 256 }
-    ensures { then (then (outcome_of second) (λ vs l. yields (held_of a ∷ vs) l)) (applying code) ≡ outcome_of result }
-{
-    match second {
-        Single::Word(b, left) => Single::Word(operated(code, a, b), left),
-        Single::Short => Single::Short,
     }
 }
 
@@ -83,13 +54,11 @@ pub fn constant_word(kind: u32, a: u32) -> u64
 pub fn chosen(w: u64) -> Sense
     ensures { result ≡ sense (held_of w) }
 {
-    if w == value::bytes::TRUE {
-        return Sense::True;
+    match w {
+        TRUE => Sense::True,
+        FALSE => Sense::False,
+        _ => Sense::Neither,
     }
-    if w == value::bytes::FALSE {
-        return Sense::False;
-    }
-    Sense::Neither
 }
 
 // The first n words of `from`, put into `to` from `at` on.
@@ -97,31 +66,13 @@ pub fn copy(to: &mut [u64], at: usize, from: &[u64], n: usize)
     requires { (at + n ≤ length to.old) × (n ≤ length from.now) }
     ensures { (to.new ≡ paste to.old at from.now n) × (length to.new ≡ length to.old) }
 {
-    let mut i = 0;
-    while i < n {
-        to[at + i] = from[i];
-        i += 1;
-    }
+    to[at..at + n].copy_from_slice(&from[..n]);
 }
 
 // Err n times.
 pub fn put_errs(out: &mut [u64], at: usize, n: usize)
-    requires { (at + n ≤ length out.old) × (n ≤ 16) }
+    requires { at + n ≤ length out.old }
     ensures { (env_of out.new ≡ bind at n (replicate n err) (env_of out.old)) × (length out.new ≡ length out.old) }
 {
-    let errs = [value::bytes::ERR; 16];
-    copy(out, at, &errs, n);
-}
-
-// An environment's words, to be bound anew.
-pub fn copied(env: &[u64; 32]) -> [u64; 32]
-    ensures { result ≡ env.now }
-{
-    *env
-}
-
-pub fn wide(a: u32) -> usize
-    ensures { result ≡ a }
-{
-    a as usize
+    out[at..at + n].fill(ERR);
 }

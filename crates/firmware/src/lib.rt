@@ -2,8 +2,8 @@
 // Every call of the firmware and of formula editors in one archive, over byte slices and numbers (document 01, "calls push, run and take with
 // numbers and byte memory"). No call asks anything of its caller; each contract is an equation on the answer and on every lent byte.
 // A call on a machine is also lent the record of firings, takes and refused pushes (document 02, Job 10: "one small record, which the
-// firmware lends and which each call updates in place"): it reads the record, makes the call of machine_tally that takes it by value and
-// writes it back. Its contract has a second equation, on the record. The machine with tags (document 02, Job 12) has no such record.
+// firmware lends and which each call updates in place"): machine_tally makes the call and updates it. Its contract has a second equation, on
+// the record. The machine with tags (document 02, Job 12) has no such record.
 // include/bench.h says the same in C.
 ghost use Rattle.std.specs.Prelude.{◌≡◌};
 ghost use Rattle.formula.specs.Tests.{reading_of};
@@ -88,20 +88,14 @@ pub extern "C" fn bench_start(
 ) -> StartAnswer
     ensures { (begun result mem.new ≡ started sheet.now kinds.now capacity mem.old) × (tally.new ≡ after_start tally.old result) }
 {
-    let t = *tally;
-    let start = machine_tally::start_tallied(sheet, kinds, capacity, mem, t);
-    *tally = start.tally;
-    start.answer
+    machine_tally::start_tallied(sheet, kinds, capacity, mem, tally)
 }
 
 #[unsafe(no_mangle)]
 pub extern "C" fn bench_push(mem: &mut [u8], set: &[u8], tally: &mut Tally) -> Answer
     ensures { (outcome result mem.new ≡ pushed mem.old set.now) × (tally.new ≡ after_push tally.old result) }
 {
-    let t = *tally;
-    let push = machine_tally::push_tallied(mem, set, t);
-    *tally = push.tally;
-    push.answer
+    machine_tally::push_tallied(mem, set, tally)
 }
 
 #[unsafe(no_mangle)]
@@ -113,50 +107,35 @@ pub extern "C" fn bench_push_tray(
 ) -> Answer
     ensures { (outcome result mem.new ≡ trayed mem.old sets.now number) × (tally.new ≡ after_tray tally.old result) }
 {
-    let t = *tally;
-    let tray = machine_tally::push_tray_tallied(mem, sets, number, t);
-    *tally = tray.tally;
-    tray.answer
+    machine_tally::push_tray_tallied(mem, sets, number, tally)
 }
 
 #[unsafe(no_mangle)]
 pub extern "C" fn bench_fire(mem: &mut [u8], operator: u32, tally: &mut Tally) -> Answer
     ensures { (outcome result mem.new ≡ fired mem.old operator) × (tally.new ≡ after_fire tally.old result) }
 {
-    let t = *tally;
-    let firing = machine_tally::fire_tallied(mem, operator, t);
-    *tally = firing.tally;
-    firing.answer
+    machine_tally::fire_tallied(mem, operator, tally)
 }
 
 #[unsafe(no_mangle)]
 pub extern "C" fn bench_run(mem: &mut [u8], firings: u32, tally: &mut Tally) -> Answer
     ensures { (outcome result mem.new ≡ ran mem.old firings) × (tally.new ≡ after_run tally.old result) }
 {
-    let t = *tally;
-    let run = machine_tally::run_tallied(mem, firings, t);
-    *tally = run.tally;
-    run.answer
+    machine_tally::run_tallied(mem, firings, tally)
 }
 
 #[unsafe(no_mangle)]
 pub extern "C" fn bench_run_rounds(mem: &mut [u8], rounds: u32, tally: &mut Tally) -> RoundsAnswer
     ensures { (roundsOutcome result mem.new ≡ ran_rounds mem.old rounds) × (tally.new ≡ after_rounds tally.old result) }
 {
-    let t = *tally;
-    let run = machine_tally::run_rounds_tallied(mem, rounds, t);
-    *tally = run.tally;
-    run.answer
+    machine_tally::run_rounds_tallied(mem, rounds, tally)
 }
 
 #[unsafe(no_mangle)]
 pub extern "C" fn bench_take(mem: &mut [u8], out: &mut [u8], tally: &mut Tally) -> Answer
     ensures { (handed result mem.new out.new ≡ taken mem.old out.old) × (tally.new ≡ after_take tally.old result) }
 {
-    let t = *tally;
-    let take = machine_tally::take_tallied(mem, out, t);
-    *tally = take.tally;
-    take.answer
+    machine_tally::take_tallied(mem, out, tally)
 }
 
 #[unsafe(no_mangle)]

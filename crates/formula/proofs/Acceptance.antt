@@ -1,17 +1,15 @@
 -- Laws of specs/Acceptance.antt, and what only they need.
-use Rattle.std.specs.Prelude.{ℕ, ◌-◌, ◌≤◌, Bool, true, false, ◌↔◌, List, [], ◌∷◌, ◌++◌, leb}
+use Rattle.std.specs.Prelude.{ℕ, ◌-◌, ◌≤◌, Bool, true, false, ◌↔◌, List, [], ◌∷◌, ◌++◌, leb, Ok, Err}
 use Rattle.std.proofs.Math.Path.{◌≡◌, refl, ap}
 use Rattle.std.proofs.Common.{sym, ◌∙◌, arith}
 use borrow.Author.Tests.{leb-true, le-leb}
 use Rattle.names.specs.Names.{without, one, trigger}
 use Rattle.names.proofs.Sets.{length-members, size-le}
-use Rattle.formula.specs.declared.Check.TheVariants.{Fault}
+use Rattle.formula.specs.Results.{Verdict, refused}
+use Rattle.formula.proofs.Results.{same-row}
 use Rattle.formula.specs.declared.Refusal.{Refusal}
 use Rattle.formula.specs.declared.Refusal.TheVariants.{Layout, Rows}
-use Rattle.formula.specs.declared.Verdict.{Verdict}
-use Rattle.formula.specs.declared.Verdict.TheVariants.{Passed as passed, Refused}
 use Rattle.formula.specs.declared.Figures.{Figures}
-use Rattle.formula.specs.declared.Reading.TheVariants.{Accepted, Rejected}
 use Rattle.formula.specs.Sheet.{row_count, lines_of, fields_of, named_in, shape_at}
 use Rattle.formula.specs.Tree.{exp_of, formula_of}
 use Rattle.formula.specs.Places.{places_of, is_in_body, node_in}
@@ -56,17 +54,17 @@ module _ (s line : List ℕ) where
     record { told = whole-true (line_fits t n line) told; kept = kept },
   )
 
-  passed-both : verdict_of s line ≡ passed → Admissible s × Kinded s line
+  passed-both : verdict_of s line ≡ Ok tt → Admissible s × Kinded s line
   unfolding verdict_of
   passed-both h = each-accepted ((all_pass (sheet_of s) (tests line)).0 h)
 
-  pub passed-admissible : verdict_of s line ≡ passed → Admissible s
+  pub passed-admissible : verdict_of s line ≡ Ok tt → Admissible s
   passed-admissible h = (passed-both h).0
 
-  pub passed-kinded : verdict_of s line ≡ passed → Kinded s line
+  pub passed-kinded : verdict_of s line ≡ Ok tt → Kinded s line
   passed-kinded h = (passed-both h).1
 
-  pub admissible-passed : Admissible s → Kinded s line → verdict_of s line ≡ passed
+  pub admissible-passed : Admissible s → Kinded s line → verdict_of s line ≡ Ok tt
   unfolding verdict_of tests row_tests formula_tests kind_tests graph_tests sheet_of
   admissible-passed h k =
       (all_pass (sheet_of s) (tests line)).1
@@ -84,44 +82,44 @@ module _ (s line : List ℕ) where
       also ap whole (le-leb (operators_of t n) 1024 h.operators)
       also tt)
 
-  by-verdict : (v : Verdict) (f g : Figures) → answer_by v f ≡ Accepted g → v ≡ passed
+  by-verdict : (v : Verdict) (f g : Figures) → answer_by v f ≡ Ok g → v ≡ Ok tt
   unfolding answer_by
-  by-verdict passed f g h = refl
-  by-verdict (Refused r row) f g h = absurd (let z : ◌≡◌ {A = ℕ} 0 1 = cc h in omega arith)
+  by-verdict (Ok _) f g h = refl
+  by-verdict (Err why) f g h = absurd (let z : ◌≡◌ {A = ℕ} 0 1 = cc h in omega arith)
 
-  pub reading-passed : verdict_of s line ≡ passed → reading_of s line ≡ Accepted (figures_of s)
+  pub reading-passed : verdict_of s line ≡ Ok tt → reading_of s line ≡ Ok (figures_of s)
   unfolding reading_of answer_by
   reading-passed h = ap (λ (x : Verdict). answer_by x (figures_of s)) h
 
-  pub reading-refused : (r : Refusal) (row : ℕ) → verdict_of s line ≡ Refused r row → reading_of s line ≡ Rejected r row
+  pub reading-refused : (r : Refusal) (row : ℕ) → verdict_of s line ≡ refused r row → reading_of s line ≡ refused r row
   unfolding reading_of answer_by
   reading-refused r row h = ap (λ (x : Verdict). answer_by x (figures_of s)) h
 
-  refused-by : (v : Verdict) (f : Figures) (r : Refusal) (row : ℕ) → answer_by v f ≡ Rejected r row → v ≡ Refused r row
+  refused-by : (v : Verdict) (f : Figures) (r : Refusal) (row : ℕ) → answer_by v f ≡ refused r row → v ≡ refused r row
   unfolding answer_by
-  refused-by passed f r row h = absurd (let z : ◌≡◌ {A = ℕ} 0 1 = cc h in omega arith)
-  refused-by (Refused q x) f r row h = cc h
+  refused-by (Ok _) f r row h = absurd (let z : ◌≡◌ {A = ℕ} 0 1 = cc h in omega arith)
+  refused-by (Err why) f r row h = cc h
 
-  figures-by : (v : Verdict) (f g : Figures) → answer_by v f ≡ Accepted g → g ≡ f
+  figures-by : (v : Verdict) (f g : Figures) → answer_by v f ≡ Ok g → g ≡ f
   unfolding answer_by
-  figures-by passed f g h = cc h
-  figures-by (Refused r row) f g h = absurd (let z : ◌≡◌ {A = ℕ} 0 1 = cc h in omega arith)
+  figures-by (Ok _) f g h = cc h
+  figures-by (Err why) f g h = absurd (let z : ◌≡◌ {A = ℕ} 0 1 = cc h in omega arith)
 
   -- An accepted reading has the sheet's figures, and its verdict is passed; a rejected one has its verdict's refusal and row.
-  pub accepted-passed : (g : Figures) → reading_of s line ≡ Accepted g → verdict_of s line ≡ passed
+  pub accepted-passed : (g : Figures) → reading_of s line ≡ Ok g → verdict_of s line ≡ Ok tt
   unfolding reading_of
   accepted-passed g h = by-verdict (verdict_of s line) (figures_of s) g h
 
-  pub accepted-figures : (g : Figures) → reading_of s line ≡ Accepted g → g ≡ figures_of s
+  pub accepted-figures : (g : Figures) → reading_of s line ≡ Ok g → g ≡ figures_of s
   unfolding reading_of
   accepted-figures g h = figures-by (verdict_of s line) (figures_of s) g h
 
-  pub rejected-refused : (r : Refusal) (row : ℕ) → reading_of s line ≡ Rejected r row → verdict_of s line ≡ Refused r row
+  pub rejected-refused : (r : Refusal) (row : ℕ) → reading_of s line ≡ refused r row → verdict_of s line ≡ refused r row
   unfolding reading_of
   rejected-refused r row h = refused-by (verdict_of s line) (figures_of s) r row h
 
   -- A sheet is accepted with its kinds line, with its figures, if and only if each test passes.
-  pub accepted-iff : (reading_of s line ≡ Accepted (figures_of s)) ↔ Admissible s × Kinded s line
+  pub accepted-iff : (reading_of s line ≡ Ok (figures_of s)) ↔ Admissible s × Kinded s line
   unfolding reading_of
   accepted-iff = (λ h. passed-both (by-verdict (verdict_of s line) (figures_of s) (figures_of s) h), λ h. reading-passed (admissible-passed h.0 h.1))
 
@@ -130,13 +128,13 @@ unfolding tests row_tests formula_tests kind_tests graph_tests
 test-numbers line = refl
 
 module _ (s : List ℕ) where
-  none-at-fault : (b : Bool) (row : ℕ) → whole b ≡ Fault row → row ≤ row_count s
+  none-at-fault : (b : Bool) (row : ℕ) → whole b ≡ Err row → row ≤ row_count s
   none-at-fault b row e = omega (arith, whole-zero b row e)
 
-  one-of-rows : (well : ℕ → Bool) (row : ℕ) → lowest (row_count s) well ≡ Fault row → row ≤ row_count s
+  one-of-rows : (well : ℕ → Bool) (row : ℕ) → lowest (row_count s) well ≡ Err row → row ≤ row_count s
   one-of-rows well row e = (lowest-fault (row_count s) well row e).1
 
-  but_last : (well : ℕ → Bool) (row : ℕ) → lowest (row_count s - 1) well ≡ Fault row → row ≤ row_count s
+  but_last : (well : ℕ → Bool) (row : ℕ) → lowest (row_count s - 1) well ≡ Err row → row ≤ row_count s
   but_last well row e = omega (arith, (lowest-fault (row_count s - 1) well row e).1)
 
   rows-in-sheet : In-sheet s row_tests
@@ -160,18 +158,18 @@ module _ (s : List ℕ) where
   each-naming (first, (second, (third, (fourth, (fifth, end))))) = naming-from (passed-each (row_count s) (names_well (fields_of s)) fifth)
 
   -- A refusal's row is 0 or one of the sheet's.
-  pub row-in-sheet : (line : List ℕ) (r : Refusal) (row : ℕ) → verdict_of s line ≡ Refused r row → row ≤ row_count s
+  pub row-in-sheet : (line : List ℕ) (r : Refusal) (row : ℕ) → verdict_of s line ≡ refused r row → row ≤ row_count s
   unfolding verdict_of tests
   row-in-sheet line =
       later-says (sheet_of s) (λ k x. x ≤ row_count s) row_tests (formula_tests ++ (kind_tests line ++ graph_tests)) rows-in-sheet
       (λ h. later-in-sheet (each-naming h) line)
 
 module _ (s line : List ℕ) where
-  pub layout-refused : laid_out s (lines_of s) ≡ false → verdict_of s line ≡ Refused Layout 0
+  pub layout-refused : laid_out s (lines_of s) ≡ false → verdict_of s line ≡ refused Layout 0
   unfolding verdict_of verdict_by after_check tests row_tests sheet_of
   layout-refused e = rw e refl
 
-  pub rows-refused : laid_out s (lines_of s) ≡ true → few_rows s ≡ false → verdict_of s line ≡ Refused Rows 0
+  pub rows-refused : laid_out s (lines_of s) ≡ true → few_rows s ≡ false → verdict_of s line ≡ refused Rows 0
   unfolding verdict_of verdict_by after_check tests row_tests sheet_of
   rows-refused e f = rw (e, f) refl
 
@@ -180,8 +178,8 @@ module _ (s line : List ℕ) where
     where
       go : (a b : Bool) → laid_out s (lines_of s) ≡ a → few_rows s ≡ b → row ≤ 200
       go a true p q = omega (arith, row-in-sheet s line k row e, leb-true (row_count s) 200 q)
-      go false false p q = let i : 0 ≡ row = cc (sym (layout-refused p) ∙ e) in omega arith
-      go true false p q = let i : 0 ≡ row = cc (sym (rows-refused p q) ∙ e) in omega arith
+      go false false p q = let i : 0 ≡ row = same-row _ _ _ _ (sym (layout-refused p) ∙ e) in omega arith
+      go true false p q = let i : 0 ≡ row = same-row _ _ _ _ (sym (rows-refused p q) ∙ e) in omega arith
 
 wide-last : (s : List ℕ) → 1 ≤ row_count s → Admissible s → width (formula_of s) ≤ 16
 unfolding formula_of widths_well wide_node node_in wide_e names_well

@@ -7,6 +7,7 @@ pub mod FaultRows
 pub mod KindWidths
 pub mod PlaceLaws
 pub mod Refusals
+pub mod Results
 pub mod RowsMet
 pub mod SheetLaws
 pub mod TestLaws

@@ -1,6 +1,6 @@
 -- Laws of specs/RowsMet.antt, and what only they need.
 use Prim.Native.Nat.{ℕ, zero, suc, ◌+◌, ◌≤◌, ◌<◌}
-use Rattle.std.specs.Prelude.{◌≡◌, ◌↔◌, ◌⊎◌, true, cond, eqb}
+use Rattle.std.specs.Prelude.{◌≡◌, ◌↔◌, ◌⊎◌, true, cond, eqb, Err}
 use Rattle.std.proofs.Math.Path.{refl, sym, ap}
 use Rattle.std.proofs.Common.{subst, ◌∙◌, inl, inr, eq-eqb, ne_eqb, arith}
 use Rattle.std.proofs.Math.Bool.{Bool, false}
@@ -8,7 +8,6 @@ use mathlib.Core.List.{List, [], ◌∷◌, ◌++◌, map, append-nil}
 use Rattle.std.proofs.Math.Decide.{ℕ_discrete}
 use Rattle.formula.specs.declared.Shape.{Shape}
 use Rattle.formula.specs.declared.Shape.TheVariants.{Identifier, Constant, Pair, Operator, Let, If, For, Iter}
-use Rattle.formula.specs.declared.Check.TheVariants.{Fault}
 use Rattle.formula.specs.Sheet.{shape_at, named_in}
 use Rattle.formula.specs.Places.{is_in_body, places_of, node_in}
 use Rattle.formula.specs.Kinds.{Kinds, Rule}
@@ -160,13 +159,13 @@ module _ (t : List ℕ) (n : ℕ) (kinds : Kinds) where
       )
 
 -- A row is given where there is one.
-some-row : (rule : Rule) (t : List ℕ) (n : ℕ) (kinds : Kinds) (row : ℕ) → kind_check rule t n kinds ≡ Fault row → 1 ≤ n
+some-row : (rule : Rule) (t : List ℕ) (n : ℕ) (kinds : Kinds) (row : ℕ) → kind_check rule t n kinds ≡ Err row → 1 ≤ n
 unfolding kind_check faults_in lowest_of
 some-row rule t zero kinds row h = absurd (let z : ◌≡◌ {A = ℕ} 0 1 = cc h in omega arith)
 some-row rule t (suc n) kinds row h = omega arith
 
 -- Of 18 the lowest row that breaks the rule where it stands is given.
-pub lowest-broken : (rule : Rule) (t : List ℕ) (n : ℕ) → Named t n → (kinds : Kinds) (row : ℕ) → kind_check rule t n kinds ≡ Fault row
+pub lowest-broken : (rule : Rule) (t : List ℕ) (n : ℕ) → Named t n → (kinds : Kinds) (row : ℕ) → kind_check rule t n kinds ≡ Err row
     → LowestBroken rule t n kinds row
 unfolding kind_check
 lowest-broken rule t n ok kinds row h = record { first = i.0; last = i.1; fault = f; lower = kept }

@@ -1,12 +1,11 @@
 -- Laws of `lowest`, the lowest row at fault: a pass over the rows that stops at the first fault finds it, and it is Passed
 -- if and only if each row is well.
-use Rattle.std.specs.Prelude.{ℕ, zero, suc, ◌+◌, ◌-◌, ◌≤◌, ◌<◌, ◌≡◌, Bool, true, false, cond}
+use Rattle.std.specs.Prelude.{ℕ, zero, suc, ◌+◌, ◌-◌, ◌≤◌, ◌<◌, ◌≡◌, Bool, true, false, cond, Ok, Err}
 use Rattle.std.proofs.Math.Path.{refl}
 use Rattle.std.proofs.Common.{sym, ap, ◌∙◌, not-suc-le-zero}
 use native.Mathlib.Omega.{arith}
 use Rattle.std.proofs.Math.Numerals.{add-one}
 use Rattle.std.proofs.Math.Decide.{ℕ_discrete}
-use Rattle.formula.specs.declared.Check.TheVariants.{Passed, Fault}
 use Rattle.formula.specs.Tests.{lowest_from, lowest, whole}
 
 -- A pass that has seen i of n rows: a row that is well goes on, one that is not is the answer.
@@ -21,37 +20,37 @@ module _ (n i : ℕ) (well : ℕ → Bool) where
   unfolding lowest_from
   goes_on h e = rw (left h, e, add-one (i + 1)) refl
 
-  pub stops : i < n → well (i + 1) ≡ false → lowest_from (i + 1) (n - i) well ≡ Fault (i + 1)
+  pub stops : i < n → well (i + 1) ≡ false → lowest_from (i + 1) (n - i) well ≡ Err (i + 1)
   unfolding lowest_from
   stops h e = rw (left h, e) refl
 
-  pub ends : n ≤ i → lowest_from (i + 1) (n - i) well ≡ Passed
+  pub ends : n ≤ i → lowest_from (i + 1) (n - i) well ≡ Ok tt
   unfolding lowest_from
   ends h = let z : n - i ≡ 0 = omega arith in rw z refl
 
 -- Passed says that each row is well, and the other way round.
-all_from : (k r : ℕ) (well : ℕ → Bool) → lowest_from r k well ≡ Passed → (j : ℕ) → r ≤ j → j < r + k → well j ≡ true
+all_from : (k r : ℕ) (well : ℕ → Bool) → lowest_from r k well ≡ Ok tt → (j : ℕ) → r ≤ j → j < r + k → well j ≡ true
 unfolding lowest_from
 all_from zero r well e j h l = absurd (not-suc-le-zero {n = 0} (omega arith))
 all_from (suc k) r well e j h l =
     go (λ q n. all_from k (suc r) well q j (omega arith) (omega arith)) (well r) refl e (ℕ_discrete r j)
   where
-    go : (lowest_from (suc r) k well ≡ Passed → (r ≡ j → ⊥) → well j ≡ true) → (b : Bool) → well r ≡ b
-        → cond b (lowest_from (suc r) k well) (Fault r) ≡ Passed → Dec (r ≡ j) → well j ≡ true
+    go : (lowest_from (suc r) k well ≡ Ok tt → (r ≡ j → ⊥) → well j ≡ true) → (b : Bool) → well r ≡ b
+        → cond b (lowest_from (suc r) k well) (Err r) ≡ Ok tt → Dec (r ≡ j) → well j ≡ true
     go later true p q (yes s) = ap well (sym s) ∙ p
     go later true p q (no n) = later q n
     go later false p q d = let z : ◌≡◌ {A = ℕ} 0 1 = cc in absurd (omega arith)
 
-from_all : (k r : ℕ) (well : ℕ → Bool) → ((j : ℕ) → r ≤ j → j < r + k → well j ≡ true) → lowest_from r k well ≡ Passed
+from_all : (k r : ℕ) (well : ℕ → Bool) → ((j : ℕ) → r ≤ j → j < r + k → well j ≡ true) → lowest_from r k well ≡ Ok tt
 unfolding lowest_from
 from_all zero r well h = refl
 from_all (suc k) r well h =
     rw (h r (omega arith) (omega arith)) (from_all k (suc r) well λ j a b. h j (omega arith) (omega arith))
 
-pub passed-each : (n : ℕ) (well : ℕ → Bool) → lowest n well ≡ Passed → (r : ℕ) → 1 ≤ r → r ≤ n → well r ≡ true
+pub passed-each : (n : ℕ) (well : ℕ → Bool) → lowest n well ≡ Ok tt → (r : ℕ) → 1 ≤ r → r ≤ n → well r ≡ true
 passed-each n well e r h l = all_from n 1 well e r h (omega arith)
 
-pub each-passed : (n : ℕ) (well : ℕ → Bool) → ((r : ℕ) → 1 ≤ r → r ≤ n → well r ≡ true) → lowest n well ≡ Passed
+pub each-passed : (n : ℕ) (well : ℕ → Bool) → ((r : ℕ) → 1 ≤ r → r ≤ n → well r ≡ true) → lowest n well ≡ Ok tt
 each-passed n well h = from_all n 1 well λ j a b. h j a (omega arith)
 
 same_from : (k r : ℕ) (f g : ℕ → Bool) → ((j : ℕ) → r ≤ j → j < r + k → f j ≡ g j) → lowest_from r k f ≡ lowest_from r k g
@@ -65,14 +64,14 @@ pub same-lowest : (n : ℕ) (f g : ℕ → Bool) → ((r : ℕ) → 1 ≤ r → 
 same-lowest n f g h = same_from n 1 f g λ j a b. h j a (omega arith)
 
 -- A fault is the lowest row that is not well.
-lowest-from : (k r : ℕ) (well : ℕ → Bool) (row : ℕ) → lowest_from r k well ≡ Fault row
+lowest-from : (k r : ℕ) (well : ℕ → Bool) (row : ℕ) → lowest_from r k well ≡ Err row
     → (r ≤ row) × (row < r + k) × (well row ≡ false) × ((j : ℕ) → r ≤ j → j < row → well j ≡ true)
 unfolding lowest_from
 lowest-from zero r well row h = absurd (let z : ◌≡◌ {A = ℕ} 0 1 = cc h in omega arith)
 lowest-from (suc k) r well row h = go (well r) refl h (lowest-from k (suc r) well row)
   where
-    go : (b : Bool) → well r ≡ b → cond b (lowest_from (suc r) k well) (Fault r) ≡ Fault row
-        → (lowest_from (suc r) k well ≡ Fault row → (suc r ≤ row) × (row < suc r + k) × (well row ≡ false) × ((j : ℕ) → suc r ≤ j → j < row → well j ≡ true))
+    go : (b : Bool) → well r ≡ b → cond b (lowest_from (suc r) k well) (Err r) ≡ Err row
+        → (lowest_from (suc r) k well ≡ Err row → (suc r ≤ row) × (row < suc r + k) × (well row ≡ false) × ((j : ℕ) → suc r ≤ j → j < row → well j ≡ true))
         → (r ≤ row) × (row < r + suc k) × (well row ≡ false) × ((j : ℕ) → r ≤ j → j < row → well j ≡ true)
     go true e f ih =
         let i = ih f in
@@ -85,15 +84,15 @@ lowest-from (suc k) r well row h = go (well r) refl h (lowest-from k (suc r) wel
         let i : r ≡ row = cc f in
         (omega arith, omega arith, ap well (sym i) ∙ e, λ j a b. absurd (omega arith))
 
-pub lowest-fault : (n : ℕ) (well : ℕ → Bool) (row : ℕ) → lowest n well ≡ Fault row
+pub lowest-fault : (n : ℕ) (well : ℕ → Bool) (row : ℕ) → lowest n well ≡ Err row
     → (1 ≤ row) × (row ≤ n) × (well row ≡ false) × ((j : ℕ) → 1 ≤ j → j < row → well j ≡ true)
 lowest-fault n well row h = let i = lowest-from n 1 well row h in (i.0, omega (arith, i.1), i.2, i.3)
 
 -- The tests that are not about rows.
-pub whole-true : (b : Bool) → whole b ≡ Passed → b ≡ true
+pub whole-true : (b : Bool) → whole b ≡ Ok tt → b ≡ true
 whole-true true h = refl
 whole-true false h = absurd (let z : ◌≡◌ {A = ℕ} 0 1 = cc h in omega arith)
 
-pub whole-zero : (b : Bool) (row : ℕ) → whole b ≡ Fault row → row ≡ 0
+pub whole-zero : (b : Bool) (row : ℕ) → whole b ≡ Err row → row ≡ 0
 whole-zero true row h = absurd (let z : ◌≡◌ {A = ℕ} 0 1 = cc h in omega arith)
 whole-zero false row h = let i : 0 ≡ row = cc h in sym i

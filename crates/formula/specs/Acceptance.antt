@@ -1,13 +1,11 @@
 -- Document 01, "Said by what was handed in", and document 02, Job 6: a sheet is accepted with its kinds line if and only if each of the ten
 -- tests passes, spelled out over the whole sheet and over its rows, and both tests of its kinds.
-use Rattle.std.specs.Prelude.{ℕ, ◌-◌, ◌≤◌, Bool, true, false, ◌↔◌, List, [], ◌∷◌, ◌++◌, leb}
+use Rattle.std.specs.Prelude.{ℕ, ◌-◌, ◌≤◌, Bool, true, false, ◌↔◌, List, [], ◌∷◌, ◌++◌, leb, Ok}
 use Rattle.std.proofs.Math.Path.{◌≡◌}
 use borrow.Author.Tests.{leb-true, le-leb}
 use Rattle.names.specs.Names.{without, one, trigger}
-use Rattle.formula.specs.declared.Check.TheVariants.{Passed}
+use Rattle.formula.specs.Results.{Verdict, refused}
 use Rattle.formula.specs.declared.Refusal.{Refusal}
-use Rattle.formula.specs.declared.Verdict.{Verdict}
-use Rattle.formula.specs.declared.Verdict.TheVariants.{Refused}
 use Rattle.formula.specs.declared.Figures.{Figures}
 use Rattle.formula.specs.Refusals.{number_of}
 use Rattle.formula.specs.Sheet.{row_count, lines_of, fields_of}
@@ -38,7 +36,7 @@ pub record Kinded (s line : List ℕ) : Type 0 where
   -- 17
   pub told : line_fits (fields_of s) (row_count s) line ≡ true
   -- 18
-  pub kept : kinds_kept (fields_of s) (row_count s) line ≡ Passed
+  pub kept : kinds_kept (fields_of s) (row_count s) line ≡ Ok tt
 
 -- The papers' numbers, in their order: "17 .., 18 .., in this order after 9 and before 10".
 abbrev pub numbers_of : List Test → List ℕ
@@ -48,7 +46,7 @@ numbers_of (x ∷ xs) = number_of x.refusal ∷ numbers_of xs
 -- ---- the numbers of an answer are small
 -- A refusal within 200 rows.
 abbrev pub Low : Verdict → Type 0
-Low v = (k : Refusal) (row : ℕ) → v ≡ Refused k row → row ≤ 200
+Low v = (k : Refusal) (row : ℕ) → v ≡ refused k row → row ≤ 200
 
 abbrev pub In-sheet : List ℕ → List Test → Type 0
 In-sheet s ts = Each (FaultSays (λ r row. row ≤ row_count s) (sheet_of s)) ts

@@ -1,7 +1,6 @@
 -- Document 02, Job 6, 18: "lowest row given". The row given is one of those at fault and none of them is lower. Assumes nothing.
-use Rattle.std.specs.Prelude.{ℕ, ◌≤◌, ◌<◌, ◌≡◌, refl, ◌⊎◌, Bool, true, false, cond, List, [], ◌∷◌, leb}
-use Rattle.formula.specs.declared.Check.{Check}
-use Rattle.formula.specs.declared.Check.TheVariants.{Passed, Fault}
+use Rattle.std.specs.Prelude.{ℕ, ◌≤◌, ◌<◌, ◌≡◌, refl, ◌⊎◌, Bool, true, false, cond, List, [], ◌∷◌, leb, Ok, Err}
+use Rattle.formula.specs.Results.{Check}
 
 -- One of a list.
 abbrev pub Among : {A : Type 0} → A → List A → Type 0
@@ -9,8 +8,8 @@ Among k [] = ⊥
 Among k (r ∷ rs) = (k ≡ r) ⊎ Among k rs
 
 abbrev pub Passes : Check → Type 0
-Passes Passed = Unit {0}
-Passes (Fault r) = ⊥
+Passes (Ok _) = Unit {0}
+Passes (Err r) = ⊥
 
 -- One of some rows, and the lowest of them.
 abbrev pub Given : ℕ → List ℕ → Type 0

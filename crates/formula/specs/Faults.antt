@@ -2,13 +2,12 @@
 -- from the rows that name it, and those of a let's row c from the rows below that, so the rows are gone through as the tree of the
 -- formula has them; each is met once, since each is named once. The rule is a parameter, as a later request holds rows to another
 -- rule. Assumes nothing.
-use Rattle.std.specs.Prelude.{ℕ, zero, suc, Bool, true, false, cond, ◌&&◌, List, [], ◌∷◌, ◌++◌, get_or, length, take, eqb, leb}
+use Rattle.std.specs.Prelude.{ℕ, zero, suc, Bool, true, false, cond, ◌&&◌, List, [], ◌∷◌, ◌++◌, get_or, length, take, eqb, leb, Ok, Err}
 use Rattle.value.specs.Kinds.{is_letter, kind_of_letter}
 use Rattle.names.specs.Names.{Names, below, size_from}
 use Rattle.formula.specs.declared.Shape.{Shape}
 use Rattle.formula.specs.declared.Shape.TheVariants.{Identifier, Constant, Pair, Operator, Let, If, For, Iter}
-use Rattle.formula.specs.declared.Check.{Check}
-use Rattle.formula.specs.declared.Check.TheVariants.{Passed, Fault}
+use Rattle.formula.specs.Results.{Check}
 use Rattle.formula.specs.Sheet.{shape_at}
 use Rattle.formula.specs.Tree.{Exp, exp_of}
 use Rattle.formula.specs.Free.{inputs_of}
@@ -40,11 +39,11 @@ faults_in rule (suc depth) t in_body kinds r =
 
 -- "lowest row given"
 abbrev pub lower : ℕ → Check → Check
-lower r Passed = Fault r
-lower r (Fault k) = Fault (cond (leb r k) r k)
+lower r (Ok _) = Err r
+lower r (Err k) = Err (cond (leb r k) r k)
 
 unfoldable pub lowest_of : List ℕ → Check
-lowest_of [] = Passed
+lowest_of [] = Ok tt
 lowest_of (r ∷ rs) = lower r (lowest_of rs)
 
 -- 18 "when a row breaks the kinds": of the formula, row n, whose inputs have these kinds.

@@ -1,8 +1,8 @@
 -- Document 01, "The formula sheet", and document 02, Job 9, row kind 10: the bytes of a sheet as rows of five decimal fields, a row by its
 -- kind, and the rows that it names. A sheet is a list of bytes; its fields are one list of numbers, five a row.
-use Rattle.std.specs.Prelude.{ℕ, zero, suc, ◌+◌, ◌*◌, ◌-◌, ◌/◌, Bool, cond, ◌&&◌, List, [], ◌∷◌, length, get_or, take, drop, eqb, leb}
-use Rattle.formula.specs.declared.Field.{Field}
-use Rattle.formula.specs.declared.Field.TheVariants.{Number, Malformed}
+use Rattle.std.specs.Prelude.{ℕ, zero, suc, ◌+◌, ◌*◌, ◌-◌, ◌/◌, Bool, cond, ◌&&◌, List, [], ◌∷◌, length, get_or, take, drop, eqb, leb, Some, None}
+use Rattle.std.specs.Option.{unwrap_or}
+use Rattle.formula.specs.Results.{Field}
 use Rattle.formula.specs.declared.Shape.{Shape}
 use Rattle.formula.specs.declared.Shape.TheVariants.{Identifier, Constant, Pair, Operator, Let, If, For, Iter}
 
@@ -11,23 +11,23 @@ is_digit b = leb 48 b && leb b 57
 
 -- The number v, then digits up to the end of the field.
 unfoldable pub digits_of : ℕ → List ℕ → Field
-digits_of v [] = Number v
-digits_of v (b ∷ s) = cond (is_digit b) (digits_of (v * 10 + (b - 48)) s) Malformed
+digits_of v [] = Some v
+digits_of v (b ∷ s) = cond (is_digit b) (digits_of (v * 10 + (b - 48)) s) None
 
 -- "zero is one digit 0": nothing stands behind a first digit 0.
 unfoldable pub zero_of : List ℕ → Field
-zero_of [] = Number 0
-zero_of (b ∷ s) = Malformed
+zero_of [] = Some 0
+zero_of (b ∷ s) = None
 
 -- "decimal fields .. right-justified with spaces, no leading zeros"
 unfoldable pub field_of : List ℕ → Field
 unfolding digits_of zero_of
-field_of [] = Malformed
+field_of [] = None
 field_of (b ∷ s) =
     cond (eqb b 32) (field_of s)
     (cond (eqb b 48) (zero_of s)
     (cond (is_digit b) (digits_of (b - 48) s)
-    Malformed))
+    None))
 
 -- "Each row is 30 characters and a line feed"
 abbrev pub row_count : List ℕ → ℕ
@@ -48,8 +48,7 @@ field_text line j = take 6 (drop (6 * j) line)
 
 -- A malformed field is refused by 3, before its number is looked at.
 abbrev pub number_in : Field → ℕ
-number_in (Number n) = n
-number_in Malformed = 0
+number_in f = unwrap_or f 0
 
 unfoldable pub fields_in : List (List ℕ) → List ℕ
 unfolding field_of

@@ -1,19 +1,12 @@
 -- Document 01, "Said by what was handed in", 1 to 10, and document 02, Job 6, 17 and 18: the tests of a sheet as one ordered list. "Each
 -- number is tested over the whole sheet before the next"; "3 to 9 give the lowest row at fault, others row 0"; of 18 too "lowest row given".
-use Rattle.std.specs.Prelude.{ℕ, zero, suc, ◌+◌, ◌-◌, ◌%◌, Bool, true, false, not, cond, ◌&&◌, ◌||◌, List, [], ◌∷◌, ◌++◌, length, get_or, eqb, leb, ltb}
-use Rattle.formula.specs.declared.Field.{Field}
-use Rattle.formula.specs.declared.Field.TheVariants.{Number, Malformed as malformed}
+use Rattle.std.specs.Prelude.{ℕ, zero, suc, ◌+◌, ◌-◌, ◌%◌, Bool, true, false, not, cond, ◌&&◌, ◌||◌, List, [], ◌∷◌, ◌++◌, length, get_or, eqb, leb, ltb, Ok, Err, Some, None, is_ok, is_some}
+use Rattle.formula.specs.Results.{Check, Field, Reading, Verdict, refused}
 use Rattle.formula.specs.declared.Shape.{Shape}
 use Rattle.formula.specs.declared.Shape.TheVariants.{Identifier, Constant, Pair, Operator, Let, If, For, Iter}
-use Rattle.formula.specs.declared.Check.{Check}
-use Rattle.formula.specs.declared.Check.TheVariants.{Passed, Fault}
 use Rattle.formula.specs.declared.Refusal.{Refusal}
 use Rattle.formula.specs.declared.Refusal.TheVariants.{Layout, Rows, Malformed, Range, Naming, Named, StrayIter, Width, Unused, KindsLine, KindsBroken, Operators}
-use Rattle.formula.specs.declared.Verdict.{Verdict}
-use Rattle.formula.specs.declared.Verdict.TheVariants.{Passed as passed, Refused}
 use Rattle.formula.specs.declared.Figures.{Figures}
-use Rattle.formula.specs.declared.Reading.{Reading}
-use Rattle.formula.specs.declared.Reading.TheVariants.{Accepted, Rejected}
 use Rattle.formula.specs.Sheet.{row_count, lines_of, field_text, field_of, fields_of, fields_in, field, shape_at, named_in}
 use Rattle.formula.specs.Tree.{exp_of, formula_of}
 use Rattle.formula.specs.Places.{is_in_body, places_of, Node, expression, body, node_in}
@@ -25,8 +18,8 @@ use Rattle.formula.specs.Faults.{kind_check, line_well, input_kinds}
 
 -- The lowest of the k rows from r on that is not well.
 unfoldable pub lowest_from : ℕ → ℕ → (ℕ → Bool) → Check
-lowest_from r zero well = Passed
-lowest_from r (suc k) well = cond (well r) (lowest_from (suc r) k well) (Fault r)
+lowest_from r zero well = Ok tt
+lowest_from r (suc k) well = cond (well r) (lowest_from (suc r) k well) (Err r)
 
 -- The lowest row at fault of n rows.
 abbrev pub lowest : ℕ → (ℕ → Bool) → Check
@@ -34,12 +27,11 @@ lowest n well = lowest_from 1 n well
 
 -- A test that is not about a row gives row 0.
 abbrev pub whole : Bool → Check
-whole true = Passed
-whole false = Fault 0
+whole true = Ok tt
+whole false = Err 0
 
 abbrev pub is-passed : Check → Bool
-is-passed Passed = true
-is-passed (Fault r) = false
+is-passed c = is_ok c
 
 -- Row r as it is written.
 abbrev pub line_at : List (List ℕ) → ℕ → List ℕ
@@ -59,8 +51,7 @@ few_rows s = leb (row_count s) 200
 
 -- 3 "a malformed field"
 abbrev pub well_formed : Field → Bool
-well_formed (Number n) = true
-well_formed malformed = false
+well_formed f = is_some f
 
 unfoldable pub fields_well : List (List ℕ) → ℕ → Bool
 unfolding field_of
@@ -234,12 +225,12 @@ tests line = row_tests ++ (formula_tests ++ (kind_tests line ++ graph_tests))
 
 -- The first refusal, with its row.
 unfoldable pub after_check : Refusal → Check → Verdict → Verdict
-after_check r Passed later = later
-after_check r (Fault row) later = Refused r row
+after_check r (Ok _) later = later
+after_check r (Err row) later = refused r row
 
 unfoldable pub verdict_by : List Test → Sheet → Verdict
 unfolding after_check
-verdict_by [] s = passed
+verdict_by [] s = Ok tt
 verdict_by (t ∷ ts) s =
     let later : Verdict = verdict_by ts s in
     after_check t.refusal (t.check s) later
@@ -260,8 +251,8 @@ figures_of s =
     }
 
 unfoldable pub answer_by : Verdict → Figures → Reading
-answer_by passed f = Accepted f
-answer_by (Refused r row) f = Rejected r row
+answer_by (Ok _) f = Ok f
+answer_by (Err why) f = Err why
 
 unfoldable pub reading_of : List ℕ → List ℕ → Reading
 unfolding verdict_of figures_of answer_by

@@ -1,11 +1,9 @@
 -- The verdict of any list of tests on any sheet: passed exactly where each test passes, and a refusal is what its test's fault says.
-use Rattle.std.specs.Prelude.{ℕ, ◌↔◌}
+use Rattle.std.specs.Prelude.{ℕ, ◌↔◌, Ok, Err}
 use Rattle.std.proofs.Math.Path.{◌≡◌}
 use mathlib.Core.List.{List, [], ◌∷◌, ◌++◌}
-use Rattle.formula.specs.declared.Check.TheVariants.{Passed, Fault}
+use Rattle.formula.specs.Results.{Verdict}
 use Rattle.formula.specs.declared.Refusal.{Refusal}
-use Rattle.formula.specs.declared.Verdict.{Verdict}
-use Rattle.formula.specs.declared.Verdict.TheVariants.{Passed as passed, Refused}
 use Rattle.formula.specs.Tests.{Sheet, Test}
 
 -- What holds of each test of a list.
@@ -18,13 +16,13 @@ a also b = (a, b)
 
 infixr 5 ◌also◌
 abbrev pub Passes : Sheet → Test → Type 0
-Passes x t = t.check x ≡ Passed
+Passes x t = t.check x ≡ Ok tt
 
 -- What a fault of a test says of its refusal and row.
 abbrev pub FaultSays : (Refusal → ℕ → Type 0) → Sheet → Test → Type 0
-FaultSays Says x t = (row : ℕ) → t.check x ≡ Fault row → Says t.refusal row
+FaultSays Says x t = (row : ℕ) → t.check x ≡ Err row → Says t.refusal row
 
 -- A verdict that goes on where it passed.
 abbrev pub then : Verdict → Verdict → Verdict
-then passed later = later
-then (Refused r row) later = Refused r row
+then (Ok _) later = later
+then (Err why) later = Err why

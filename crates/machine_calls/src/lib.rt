@@ -2,15 +2,16 @@
 // Push, fire, run and take over byte memory (document 01, "Running" and the refusals), the firmware's
 // calls of these names. The definitions are specs/Calls; each contract is an equation on the answer
 // and on every lent byte, and asks nothing of the caller. Values lie in five bytes each (value's
-// specs/Bytes). What a push and a take do to links takes `base`, the byte where these begin.
-ghost use Rattle.std.specs.Prelude.{◌≡◌, ℕ, ◌+◌, ◌*◌, ◌≤◌, ◌<◌, length};
-ghost use Rattle.machine_layout.specs.Layout.{most_inputs, most_results, least_size, most_size, records_at, links_at, need, need_from, inputs_of, stored_kinds};
+// specs/Bytes). What a push and a take do to links takes the place where these lie.
+ghost use Rattle.std.specs.Prelude.{MatchResult, ◌≡◌, ℕ, ◌+◌, ◌*◌, ◌≤◌, ◌<◌, length};
+ghost use Rattle.machine_layout.specs.Layout.{most_inputs, most_results, records_at, links_at, need, need_from, inputs_of, stored_kinds};
+ghost use Rattle.formula.specs.Refusals.{number_of};
 ghost use Rattle.value_sets.specs.Sets.{set_ok};
 ghost use Rattle.machine_valid.specs.Below.{all_below};
 ghost use Rattle.machine_calls.specs.Calls.{outcome, handed, answers, refusal, standing, rooms_ok, entered_from, result_ready_from, result_word_from, result_bytes, written_from, emptied_from, pushed, fired, ran, taken};
 
 use formula::Refusal;
-use machine_layout::LINKS_AT;
+use machine_layout::{RESULTS, Stretches, TOKEN_BYTES};
 
 // A call's answer: document 01's number of a refusal, 0 where accepted; the firings of a run, the
 // width of a taken result set or the sets of a tray that went in (machine_tray), else 0.
@@ -22,7 +23,7 @@ pub struct Answer {
 }
 
 // The bytes of a result set.
-pub const RESULT_BYTES: usize = 80;
+pub const RESULT_BYTES: usize = TOKEN_BYTES * RESULTS;
 
 pub fn reply(refusal: u32, count: u32) -> Answer
     ensures { result ≡ answers refusal count }
@@ -33,21 +34,21 @@ pub fn reply(refusal: u32, count: u32) -> Answer
 pub fn refused(r: Refusal) -> Answer
     ensures { result ≡ refusal r }
 {
-    reply(formula::refusal_number(r), 0)
+    reply(u32::from(r), 0)
 }
 
-// 11 or 31, or 0 where the memory stands well.
-pub fn standing_of(mem: &[u8]) -> u32
-    ensures { result ≡ standing mem.now }
+// Whether the memory stands well, else refusal 11 or 31.
+pub fn standing(mem: &[u8]) -> Result<(), Refusal>
+    ensures { MatchResult result (λ _. standing mem.now ≡ 0) (λ r. (number_of r ≡ standing mem.now) × (0 < number_of r)) }
 {
     let capacity = machine_layout::capacity(mem);
     if mem.len() < machine_layout::machine_need(capacity) {
-        return formula::refusal_number(Refusal::Memory);
+        return Err(Refusal::Memory);
     }
-    if machine_valid::is_valid(mem) {
-        return 0;
+    if !machine_valid::is_valid(mem) {
+        return Err(Refusal::Altered);
     }
-    formula::refusal_number(Refusal::Altered)
+    Ok(())
 }
 
 // Whether a set has a value of its stored kind, or an err, for each input.
@@ -61,34 +62,30 @@ pub fn is_set(mem: &[u8], set: &[u8]) -> bool
 }
 
 // Whether the trigger's link and the k input links have room.
-fn have_room(mem: &[u8], size: usize, k: usize) -> bool
-    requires { (least_size ≤ size) × (size ≤ most_size) × (need size ≤ length mem.now) × (k ≤ most_inputs) }
-    ensures { result ≡ rooms_ok mem.now size k }
+fn have_room(mem: &[u8], links: Stretches, k: usize) -> bool
+    requires { (links.base ≡ links_at) × (need links.size ≤ length mem.now) × (k ≤ most_inputs) }
+    ensures { result ≡ rooms_ok mem.now links.size k }
 {
-    if !machine_firing::room_of(mem, LINKS_AT, size, machine_layout::trigger(mem)) {
+    if !machine_firing::room_of(mem, links, machine_layout::trigger(mem)) {
         return false;
     }
-    let mut j = 0;
-    while j < k {
-        if !machine_firing::room_of(mem, LINKS_AT, size, machine_layout::input_link(mem, j)) {
+    for j in 0..k {
+        if !machine_firing::room_of(mem, links, machine_layout::input_link(mem, j)) {
             return false;
         }
-        j += 1;
     }
     true
 }
 
 // Gives the k values of a set to the input links.
-pub fn enter(mem: &mut [u8], base: usize, size: usize, k: usize, set: &[u8])
-    requires { (links_at ≤ base) × (least_size ≤ size) × (size ≤ most_size) × (need_from base size ≤ length mem.old) × (k ≤ most_inputs) × (5 * k ≤ length set.now) }
-    ensures { mem.new ≡ entered_from k mem.old base size set.now }
+pub fn enter(mem: &mut [u8], links: Stretches, k: usize, set: &[u8])
+    requires { (links_at ≤ links.base) × (need_from links.base links.size ≤ length mem.old) × (k ≤ most_inputs) × (5 * k ≤ length set.now) }
+    ensures { mem.new ≡ entered_from k mem.old links.base links.size set.now }
 {
-    let mut j = 0;
-    while j < k {
+    for j in 0..k {
         let l = machine_layout::input_link(mem, j);
-        let word = value::bytes::load(set, 5 * j);
-        machine_firing::append_to(mem, base, size, l, word);
-        j += 1;
+        let word = value::bytes::load(set, TOKEN_BYTES * j);
+        machine_firing::append_to(mem, links, l, word);
     }
 }
 
@@ -96,9 +93,8 @@ pub fn enter(mem: &mut [u8], base: usize, size: usize, k: usize, set: &[u8])
 pub fn push(mem: &mut [u8], set: &[u8]) -> Answer
     ensures { outcome result mem.new ≡ pushed mem.old set.now }
 {
-    let stands = standing_of(mem);
-    if stands != 0 {
-        return reply(stands, 0);
+    if let Err(r) = standing(mem) {
+        return refused(r);
     }
     if !is_set(mem, set) {
         return refused(Refusal::Set);
@@ -108,14 +104,14 @@ pub fn push(mem: &mut [u8], set: &[u8]) -> Answer
         return refused(Refusal::Untaken);
     }
     let inputs = machine_layout::inputs(mem);
-    let size = machine_layout::stretch_size(machine_layout::capacity(mem));
-    if !have_room(mem, size, inputs) {
+    let links = Stretches::of(mem);
+    if !have_room(mem, links, inputs) {
         return refused(Refusal::Full);
     }
     let trigger = machine_layout::trigger(mem);
-    enter(mem, LINKS_AT, size, inputs, set);
+    enter(mem, links, inputs, set);
     let token = value::bytes::to_word(value::Value::Truth(true));
-    machine_firing::append_to(mem, LINKS_AT, size, trigger, token);
+    machine_firing::append_to(mem, links, trigger, token);
     mem[machine_layout::UNTAKEN_AT] = (untaken + 1) as u8;
     reply(0, 0)
 }
@@ -124,16 +120,15 @@ pub fn push(mem: &mut [u8], set: &[u8]) -> Answer
 pub fn fire(mem: &mut [u8], operator: u32) -> Answer
     ensures { outcome result mem.new ≡ fired mem.old operator }
 {
-    let stands = standing_of(mem);
-    if stands != 0 {
-        return reply(stands, 0);
+    if let Err(r) = standing(mem) {
+        return refused(r);
     }
     let i = operator as usize;
     if machine_layout::operators(mem) <= i {
         return refused(Refusal::NotAble);
     }
-    let size = machine_layout::stretch_size(machine_layout::capacity(mem));
-    if machine_operators::fire_at(mem, LINKS_AT, size, i) {
+    let links = Stretches::of(mem);
+    if machine_operators::fire_at(mem, links, i) {
         return reply(0, 0);
     }
     refused(Refusal::NotAble)
@@ -144,69 +139,62 @@ pub fn fire(mem: &mut [u8], operator: u32) -> Answer
 pub fn run(mem: &mut [u8], firings: u32) -> Answer
     ensures { outcome result mem.new ≡ ran mem.old firings }
 {
-    let stands = standing_of(mem);
-    if stands != 0 {
-        return reply(stands, 0);
+    if let Err(r) = standing(mem) {
+        return refused(r);
     }
     let n = machine_layout::operators(mem);
-    let size = machine_layout::stretch_size(machine_layout::capacity(mem));
-    let count = machine_runs::run(mem, LINKS_AT, size, n, firings);
+    let links = Stretches::of(mem);
+    let count = machine_runs::run(mem, links, n, firings);
     if count < firings {
         return reply(0, count);
     }
-    if machine_runs::idle(mem, LINKS_AT, size, n) {
+    if machine_runs::idle(mem, links, n) {
         return reply(0, count);
     }
-    reply(formula::refusal_number(Refusal::Unfinished), count)
+    reply(u32::from(Refusal::Unfinished), count)
 }
 
 // Whether a token waits on each of the k result links.
-pub fn are_ready(mem: &[u8], base: usize, size: usize, k: usize) -> bool
-    requires { (links_at ≤ base) × (least_size ≤ size) × (size ≤ most_size) × (need_from base size ≤ length mem.now) × (k ≤ most_results) }
-    ensures { result ≡ all_below k (result_ready_from mem.now base size) }
+pub fn are_ready(mem: &[u8], links: Stretches, k: usize) -> bool
+    requires { (links_at ≤ links.base) × (need_from links.base links.size ≤ length mem.now) × (k ≤ most_results) }
+    ensures { result ≡ all_below k (result_ready_from mem.now links.base links.size) }
 {
-    let mut j = 0;
-    while j < k {
-        if machine_firing::head_of(mem, base, size, machine_layout::result_link(mem, j)) == 0 {
+    for j in 0..k {
+        if machine_firing::head_of(mem, links, machine_layout::result_link(mem, j)) == 0 {
             return false;
         }
-        j += 1;
     }
     true
 }
 
 // Value j of the result set: err past the width.
-fn result_word(mem: &[u8], base: usize, size: usize, k: usize, j: usize) -> u64
-    requires { (links_at ≤ base) × (least_size ≤ size) × (size ≤ most_size) × (need_from base size ≤ length mem.now) × (k ≤ most_results) }
-    ensures { result ≡ result_word_from mem.now base size k j }
+fn result_word(mem: &[u8], links: Stretches, k: usize, j: usize) -> u64
+    requires { (links_at ≤ links.base) × (need_from links.base links.size ≤ length mem.now) × (k ≤ most_results) }
+    ensures { result ≡ result_word_from mem.now links.base links.size k j }
 {
     if j < k {
-        return machine_firing::head_of(mem, base, size, machine_layout::result_link(mem, j));
+        return machine_firing::head_of(mem, links, machine_layout::result_link(mem, j));
     }
     value::bytes::ERR
 }
 
-pub fn write_results(mem: &[u8], base: usize, size: usize, k: usize, out: &mut [u8])
-    requires { (links_at ≤ base) × (least_size ≤ size) × (size ≤ most_size) × (need_from base size ≤ length mem.now) × (k ≤ most_results) × (result_bytes ≤ length out.old) }
-    ensures { out.new ≡ written_from most_results mem.now base size k out.old }
+pub fn write_results(mem: &[u8], links: Stretches, k: usize, out: &mut [u8])
+    requires { (links_at ≤ links.base) × (need_from links.base links.size ≤ length mem.now) × (k ≤ most_results) × (result_bytes ≤ length out.old) }
+    ensures { out.new ≡ written_from most_results mem.now links.base links.size k out.old }
 {
-    let mut j = 0;
-    while j < machine_layout::RESULTS {
-        let word = result_word(mem, base, size, k, j);
-        value::bytes::store(out, 5 * j, word);
-        j += 1;
+    for j in 0..RESULTS {
+        let word = result_word(mem, links, k, j);
+        value::bytes::store(out, TOKEN_BYTES * j, word);
     }
 }
 
-pub fn empty_results(mem: &mut [u8], base: usize, size: usize, k: usize)
-    requires { (links_at ≤ base) × (least_size ≤ size) × (size ≤ most_size) × (need_from base size ≤ length mem.old) × (k ≤ most_results) }
-    ensures { mem.new ≡ emptied_from k mem.old base size }
+pub fn empty_results(mem: &mut [u8], links: Stretches, k: usize)
+    requires { (links_at ≤ links.base) × (need_from links.base links.size ≤ length mem.old) × (k ≤ most_results) }
+    ensures { mem.new ≡ emptied_from k mem.old links.base links.size }
 {
-    let mut j = 0;
-    while j < k {
+    for j in 0..k {
         let l = machine_layout::result_link(mem, j);
-        machine_firing::remove_from(mem, base, size, l);
-        j += 1;
+        machine_firing::remove_from(mem, links, l);
     }
 }
 
@@ -217,21 +205,20 @@ pub fn take(mem: &mut [u8], out: &mut [u8]) -> Answer
     if out.len() < RESULT_BYTES {
         return refused(Refusal::Memory);
     }
-    let stands = standing_of(mem);
-    if stands != 0 {
-        return reply(stands, 0);
+    if let Err(r) = standing(mem) {
+        return refused(r);
     }
     let untaken = machine_layout::untaken(mem);
     if untaken < 1 {
         return refused(Refusal::NoResult);
     }
     let results = machine_layout::results(mem);
-    let size = machine_layout::stretch_size(machine_layout::capacity(mem));
-    if !are_ready(mem, LINKS_AT, size, results) {
+    let links = Stretches::of(mem);
+    if !are_ready(mem, links, results) {
         return refused(Refusal::NoResult);
     }
-    write_results(mem, LINKS_AT, size, results, out);
-    empty_results(mem, LINKS_AT, size, results);
+    write_results(mem, links, results, out);
+    empty_results(mem, links, results);
     mem[machine_layout::UNTAKEN_AT] = (untaken - 1) as u8;
     reply(0, results as u32)
 }

@@ -1,8 +1,8 @@
 -- A firing on bytes. Document 01, "The graph": "An operator fires only when every token listed waits and each link it emits on has a free
 -- place". The decision is the table's (gates' specs/Decide); here it gets the links that stand in the operator's record.
 -- All is stated over the byte `base` where the links begin. Assumes nothing.
-use Rattle.std.specs.Prelude.{ℕ, ◌+◌, Bool, true, false, ◌&&◌, List, get_or}
-use Rattle.value.specs.declared.Decoded.{Decoded}
+use Rattle.std.specs.Prelude.{ℕ, ◌+◌, Bool, true, false, ◌&&◌, List, get_or, Option}
+use Rattle.value.specs.declared.Value.{Value}
 use Rattle.value.specs.Operators.{pick}
 use Rattle.value.specs.Bytes.{decoded, value_of, word_or, word_at, stored}
 use Rattle.machine_gates.specs.Decide.{Decided, is_absent, decide_at}
@@ -27,7 +27,7 @@ pub record Plan : Type 0 where
 unfoldable pub taken : Bool → ℕ → ℕ
 taken takes l = pick takes l no_link
 
-unfoldable pub given : Decoded → ℕ → ℕ
+unfoldable pub given : Option Value → ℕ → ℕ
 given token l = pick (is_absent token) no_link l
 
 -- the decision with the links of the ports that begin at a place
@@ -48,7 +48,7 @@ planned m at d =
     }
 
 -- the register of operator i as a value, none before the first firing
-unfoldable pub register_of : List ℕ → ℕ → Decoded
+unfoldable pub register_of : List ℕ → ℕ → Option Value
 register_of m i = decoded (value_of (word_at m (register_at i)))
 
 unfoldable pub decision_from : List ℕ → ℕ → ℕ → ℕ → Decided

@@ -1,8 +1,8 @@
 -- The links of a memory: each is the stretch at its place (machine_layout's specs/Layout, machine_queue's specs/Stretch), counted from the byte `base` on
 -- where links begin. A number from 3105 on is no link: nothing waits there, there is always room, and nothing happens to it; so each of these holds for
 -- all contents of the memory.
-use Rattle.std.specs.Prelude.{ℕ, Bool, true, false, List, ltb}
-use Rattle.value.specs.declared.Decoded.{Decoded}
+use Rattle.std.specs.Prelude.{ℕ, Bool, true, false, List, ltb, Option}
+use Rattle.value.specs.declared.Value.{Value}
 use Rattle.value.specs.Operators.{pick}
 use Rattle.value.specs.Bytes.{decoded, value_of}
 use Rattle.machine_queue.specs.Stretch.{head_of, room_in, appended, removed}
@@ -13,7 +13,7 @@ unfoldable pub head_from : List ℕ → ℕ → ℕ → ℕ → ℕ
 head_from m base size l = pick (ltb l 3105) (head_of (part m (link_from base size l) size)) 0
 
 -- that token, none where the word is no value
-unfoldable pub token_from : List ℕ → ℕ → ℕ → ℕ → Decoded
+unfoldable pub token_from : List ℕ → ℕ → ℕ → ℕ → Option Value
 token_from m base size l = decoded (value_of (head_from m base size l))
 
 -- a place is free
@@ -35,7 +35,7 @@ appended_from m base size l w = on_link_from m base size l (λ q. appended q w)
 abbrev pub head_at : List ℕ → ℕ → ℕ → ℕ
 head_at m size l = head_from m links_at size l
 
-abbrev pub token_at : List ℕ → ℕ → ℕ → Decoded
+abbrev pub token_at : List ℕ → ℕ → ℕ → Option Value
 token_at m size l = token_from m links_at size l
 
 abbrev pub room_at : List ℕ → ℕ → ℕ → Bool

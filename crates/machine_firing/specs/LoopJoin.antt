@@ -1,10 +1,10 @@
 -- The IC gate's cases on any memory (machine_gates' specs/LoopJoin): the tokens are those that wait first on the operator's three inputs, and a
 -- case that holds also wants a free place on each link that it emits on. Exactly one does where the operator is able, none where it is not.
 -- Altered memory included. Assumes nothing.
-use Rattle.std.specs.Prelude.{ℕ, ◌+◌, ◌≤◌, ◌≡◌, Bool, true, false, cond, ◌&&◌, List, [], ◌∷◌}
+use Rattle.std.specs.Prelude.{ℕ, ◌+◌, ◌≤◌, ◌≡◌, Bool, true, false, cond, ◌&&◌, List, [], ◌∷◌, Option}
 use Rattle.std.proofs.Math.Path.{refl}
 use Rattle.std.proofs.Common.{sym, ap, ◌∙◌, arith}
-use Rattle.value.specs.declared.Decoded.{Decoded}
+use Rattle.value.specs.declared.Value.{Value}
 use Rattle.machine_layout.specs.Layout.{operator_at, kind_byte, port_of}
 use Rattle.machine_gates.specs.Decide.{Decided, idle, decide_at}
 use Rattle.machine_gates.specs.Rows.{Row, table, holding, first_row}
@@ -18,11 +18,11 @@ abbrev pub ready : List ℕ → ℕ → ℕ → ℕ → Decided → Bool
 ready m base size i d = ready_from m base size (planned m (operator_at i + 2) d)
 
 -- how many rows hold with room for what they give
-abbrev pub holding_in : List ℕ → ℕ → ℕ → ℕ → List Row → Decoded → Decoded → Decoded → Decoded → ℕ
+abbrev pub holding_in : List ℕ → ℕ → ℕ → ℕ → List Row → Option Value → Option Value → Option Value → Option Value → ℕ
 holding_in m base size i [] a b c g = 0
 holding_in m base size i (r ∷ rs) a b c g = cond (r.holds a b c && ready m base size i (r.acts g)) 1 0 + holding_in m base size i rs a b c g
 
-module _ (m : List ℕ) (base size i : ℕ) (a b c g : Decoded) where
+module _ (m : List ℕ) (base size i : ℕ) (a b c g : Option Value) where
   idle-never : ready m base size i idle ≡ false
   unfolding ready_from planned
   idle-never = refl

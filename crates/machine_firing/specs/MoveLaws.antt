@@ -1,15 +1,14 @@
 -- Which decisions the moves of the code are: a removal from two links, and one or two tokens given. A link of number 65535 changes nothing, so one law
 -- holds for every choice of inputs that takes from at most one data input. Assumes nothing but, of the register's place, that the memory is as long
 -- as its links need and that they begin behind the registers.
-use Rattle.std.specs.Prelude.{ℕ, ◌+◌, ◌*◌, ◌≤◌, ◌<◌, ◌≡◌, Bool, ◌&&◌, get_or}
+use Rattle.std.specs.Prelude.{ℕ, ◌+◌, ◌*◌, ◌≤◌, ◌<◌, ◌≡◌, Bool, ◌&&◌, get_or, Option, Some, None}
 use Rattle.std.proofs.Math.Path.{refl, ap}
 use Rattle.std.proofs.Common.{sym, ◌∙◌, true≢false, arith}
 use Rattle.std.proofs.Math.Bool.{true, false, not}
 use Rattle.std.proofs.lemmas.Bool.{false≢true}
 use mathlib.Core.List.{List}
 use Rattle.std.proofs.Math.ListN.{length}
-use Rattle.value.specs.declared.Decoded.{Decoded}
-use Rattle.value.specs.declared.Decoded.TheVariants.{Valid, Invalid}
+use Rattle.value.specs.declared.Value.{Value}
 use Rattle.value.specs.Operators.{pick}
 use Rattle.value.specs.Bytes.{decoded, value_of, word_or, word_at, stored}
 use Rattle.machine_gates.specs.Decide.{Decided, does, idle, is_absent}
@@ -53,7 +52,7 @@ module _ (m : List ℕ) (base size i : ℕ) (dry : Bool) where
   fires-idle = (refl, refl)
 
 module _ (m m' : List ℕ) (base size i : ℕ) (dry r : Bool) (t1 t2 t3 : Bool) (once : t2 && t3 ≡ false) where
-  abbrev plan : Decoded → Decoded → Decoded → Decoded → Plan
+  abbrev plan : Option Value → Option Value → Option Value → Option Value → Plan
   plan a b c g = planned m (operator_at i + 2) (does t1 t2 t3 a b c g)
 
   -- the links that are taken from
@@ -75,7 +74,7 @@ module _ (m m' : List ℕ) (base size i : ℕ) (dry r : Bool) (t1 t2 t3 : Bool) 
       go true false e = refl
       go false v e = refl
 
-  module _ (a b c g : Decoded) (there : is_absent a ≡ false) where
+  module _ (a b c g : Option Value) (there : is_absent a ≡ false) where
     ready-one : is_absent b ≡ true → is_absent c ≡ true → ready_from m base size (plan a b c g) ≡ room_from m base size (port_of m i 3)
     unfolding planned ready_from given room_from
     ready-one p q = rw (there, p, q) (and-true (room_from m base size (port_of m i 3)))
@@ -105,33 +104,33 @@ module _ (m m' : List ℕ) (base size i : ℕ) (dry r : Bool) (t1 t2 t3 : Bool) 
         rw (there, p, q) (ap (λ (x : List ℕ). appended_from (appended_from x base size (port_of m i 3) (word_or a)) base size (port_of m i 5) (word_or c)) takes)
 
   -- one token given
-  pub gives_one : (a g : Decoded) → is_absent a ≡ false →
+  pub gives_one : (a g : Option Value) → is_absent a ≡ false →
       Done m m' dry r (room_from m base size (port_of m i 3)) (given_one m base size from chosen (port_of m i 3) (word_or a)) → Moves m m' base size i dry r (passes t1 t2 t3 a g)
   gives_one a g there d =
-      said m m' dry r _ _ _ _ (sym (ready-one a Invalid Invalid g there refl refl)) (sym (moved-one a Invalid Invalid g there refl refl)) d
+      said m m' dry r _ _ _ _ (sym (ready-one a None None g there refl refl)) (sym (moved-one a None None g there refl refl)) d
 
   -- two tokens given, on the first output and the second or third
-  pub gives-second : (a b c g : Decoded) → is_absent a ≡ false → is_absent b ≡ false → is_absent c ≡ true →
+  pub gives-second : (a b c g : Option Value) → is_absent a ≡ false → is_absent b ≡ false → is_absent c ≡ true →
       Done m m' dry r (room_from m base size (port_of m i 3) && room_from m base size (port_of m i 4)) (given_two m base size from chosen (port_of m i 3) (word_or a) (port_of m i 4) (word_or b)) →
       Moves m m' base size i dry r (does t1 t2 t3 a b c g)
   gives-second a b c g there p q d = said m m' dry r _ _ _ _ (sym (ready-second a b c g there p q)) (sym (moved-second a b c g there p q)) d
 
-  pub gives-third : (a b c g : Decoded) → is_absent a ≡ false → is_absent b ≡ true → is_absent c ≡ false →
+  pub gives-third : (a b c g : Option Value) → is_absent a ≡ false → is_absent b ≡ true → is_absent c ≡ false →
       Done m m' dry r (room_from m base size (port_of m i 3) && room_from m base size (port_of m i 5)) (given_two m base size from chosen (port_of m i 3) (word_or a) (port_of m i 5) (word_or c)) →
       Moves m m' base size i dry r (does t1 t2 t3 a b c g)
   gives-third a b c g there p q d = said m m' dry r _ _ _ _ (sym (ready-third a b c g there p q)) (sym (moved-third a b c g there p q)) d
 
   -- one token given and remembered
-  pub remembers : (a : Decoded) → is_absent a ≡ false →
+  pub remembers : (a : Option Value) → is_absent a ≡ false →
       Done m m' dry r (room_from m base size (port_of m i 3)) (stored (given_one m base size from chosen (port_of m i 3) (word_or a)) (register_at i) (word_or a)) →
       Fires m m' base size i dry r (passes t1 t2 t3 a a)
   unfolding performed_from planned
   remembers a there d =
-      said m m' dry r _ _ _ _ (sym (ready-one a Invalid Invalid a there refl refl))
-      (ap (λ (x : List ℕ). stored x (register_at i) (word_or a)) (sym (moved-one a Invalid Invalid a there refl refl))) d
+      said m m' dry r _ _ _ _ (sym (ready-one a None None a there refl refl))
+      (ap (λ (x : List ℕ). stored x (register_at i) (word_or a)) (sym (moved-one a None None a there refl refl))) d
 
   -- a token passed, remembered or dropped where it waits
-  pub passes-data : (a g : Decoded) →
+  pub passes-data : (a g : Option Value) →
       Done m m' dry r (not (is_absent a) && room_from m base size (port_of m i 3)) (given_one m base size from chosen (port_of m i 3) (word_or a)) →
       Moves m m' base size i dry r (passing t1 t2 t3 a g)
   unfolding planned ready_from
@@ -142,7 +141,7 @@ module _ (m m' : List ℕ) (base size i : ℕ) (dry r : Bool) (t1 t2 t3 : Bool) 
       go true e d = unable m m' dry r _ _ d
       go false e d = gives_one a g e d
 
-  pub remembers-data : (a : Decoded) →
+  pub remembers-data : (a : Option Value) →
       Done m m' dry r (not (is_absent a) && room_from m base size (port_of m i 3)) (stored (given_one m base size from chosen (port_of m i 3) (word_or a)) (register_at i) (word_or a)) →
       Fires m m' base size i dry r (passing t1 t2 t3 a a)
   unfolding planned ready_from
@@ -154,11 +153,11 @@ module _ (m m' : List ℕ) (base size i : ℕ) (dry r : Bool) (t1 t2 t3 : Bool) 
       go true e d = unable m m' dry r _ _ d
       go false e d = remembers a e d
 
-  pub drops-data : (a g : Decoded) → Done m m' dry r (not (is_absent a)) (taken_two m base size from chosen) → Moves m m' base size i dry r (dropping t1 t2 t3 a g)
+  pub drops-data : (a g : Option Value) → Done m m' dry r (not (is_absent a)) (taken_two m base size from chosen) → Moves m m' base size i dry r (dropping t1 t2 t3 a g)
   unfolding planned ready_from moved_from given room_from appended_from
   drops-data a g = go (is_absent a)
     where
-      go : (t : Bool) → Done m m' dry r (not t) (taken_two m base size from chosen) → Moves m m' base size i dry r (pick t idle (passes t1 t2 t3 Invalid g))
+      go : (t : Bool) → Done m m' dry r (not t) (taken_two m base size from chosen) → Moves m m' base size i dry r (pick t idle (passes t1 t2 t3 None g))
       go true d = unable m m' dry r _ _ d
       go false d = said m m' dry r _ _ _ _ refl (sym takes) d
 
@@ -201,11 +200,11 @@ module _ (m : List ℕ) (base size : ℕ) (h : need_from base size ≤ length m)
       rw (moved-low (register_at i) (omega arith), moved-low (register_at i + 1) (omega arith), moved-low (register_at i + 2) (omega arith), moved-low (register_at i + 3) (omega arith), moved-low (register_at i + 4) (omega arith)) refl
 
 -- a firing is the tokens moved and the register stored that the decision leaves
-pub completed : (m : List ℕ) (base size i : ℕ) (g : Decoded) (d : Decided) → ready_from m base size (planned m (operator_at i + 2) d) ≡ true → Leaves g d →
+pub completed : (m : List ℕ) (base size i : ℕ) (g : Option Value) (d : Decided) → ready_from m base size (planned m (operator_at i + 2) d) ≡ true → Leaves g d →
     stored (moved_from m base size (planned m (operator_at i + 2) d)) (register_at i) (word_or g) ≡ performed_from m base size i (planned m (operator_at i + 2) d)
 unfolding performed_from planned ready_from
 completed m base size i g d ready leaves =
-    ap (λ (x : Decoded). stored (moved_from m base size (planned m (operator_at i + 2) d)) (register_at i) (word_or x)) (sym (leaves (able d.able _ ready)))
+    ap (λ (x : Option Value). stored (moved_from m base size (planned m (operator_at i + 2) d)) (register_at i) (word_or x)) (sym (leaves (able d.able _ ready)))
   where
     able : (x y : Bool) → x && y ≡ true → x ≡ true
     able true y e = refl

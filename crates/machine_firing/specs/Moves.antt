@@ -1,7 +1,6 @@
 -- What the code of a firing does: whether it could fire and, unless it is dry and only tells that, the memory that it leaves. Assumes nothing.
-use Rattle.std.specs.Prelude.{ℕ, ◌+◌, ◌≡◌, Bool, not, ◌&&◌, List, eqb}
-use Rattle.value.specs.declared.Decoded.{Decoded}
-use Rattle.value.specs.declared.Decoded.TheVariants.{Valid}
+use Rattle.std.specs.Prelude.{ℕ, ◌+◌, ◌≡◌, Bool, not, ◌&&◌, List, eqb, Option, Some}
+use Rattle.value.specs.declared.Value.{Value}
 use Rattle.value.specs.Operators.{pick}
 use Rattle.network.specs.Values.{true-value}
 use Rattle.machine_gates.specs.Decide.{Decided}
@@ -22,11 +21,11 @@ abbrev pub Fires : List ℕ → List ℕ → ℕ → ℕ → ℕ → Bool → Bo
 Fires m m' base size i dry r d =
     Done m m' dry r (ready_from m base size (planned m (operator_at i + 2) d)) (performed_from m base size i (planned m (operator_at i + 2) d))
 
-abbrev pub MovesAny : List ℕ → List ℕ → ℕ → ℕ → ℕ → Bool → Bool → (Decoded → Decided) → Type 0
-MovesAny m m' base size i dry r d = (g : Decoded) → Moves m m' base size i dry r (d g)
+abbrev pub MovesAny : List ℕ → List ℕ → ℕ → ℕ → ℕ → Bool → Bool → (Option Value → Decided) → Type 0
+MovesAny m m' base size i dry r d = (g : Option Value) → Moves m m' base size i dry r (d g)
 
 -- The first token on an input of operator i.
-abbrev pub input : List ℕ → ℕ → ℕ → ℕ → ℕ → Decoded
+abbrev pub input : List ℕ → ℕ → ℕ → ℕ → ℕ → Option Value
 input m base size i port = token_from m base size (port_of m i port)
 
 -- A token taken from each of two links; then one given, or two.
@@ -42,5 +41,5 @@ unfolding given_one
 given_two m base size in1 in2 out word out' word' = appended_from (given_one m base size in1 in2 out word) base size out' word'
 
 -- The register that every kind but FS leaves: FM, of byte 19, that it has fired; the others what was there.
-unfoldable pub next_register : ℕ → Decoded → Decoded
-next_register kind g = pick (eqb kind 19) (Valid true-value) g
+unfoldable pub next_register : ℕ → Option Value → Option Value
+next_register kind g = pick (eqb kind 19) (Some true-value) g

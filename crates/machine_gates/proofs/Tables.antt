@@ -1,5 +1,5 @@
 -- Laws of specs/Tables.antt, and what only they need.
-use Rattle.std.specs.Prelude.{ℕ, ◌≤◌, ◌<◌, ◌≡◌, Bool, not, ◌&&◌, ◌||◌, ◌≢◌, ◌⊎◌}
+use Rattle.std.specs.Prelude.{ℕ, ◌≤◌, ◌<◌, ◌≡◌, Bool, not, ◌&&◌, ◌||◌, ◌≢◌, ◌⊎◌, Option, Some, None}
 use Rattle.std.proofs.Math.Path.{refl}
 use Rattle.std.proofs.Common.{inl, inr}
 use Rattle.std.proofs.Math.Bool.{true, false}
@@ -8,8 +8,6 @@ use native.Mathlib.Omega.{arith}
 use borrow.Author.Tests.{le-leb, lt-leb, eq-eqb, ne_eqb, eqb-false}
 use Rattle.std.proofs.Math.Dec.{eqb}
 use Rattle.value.specs.declared.Value.{Value}
-use Rattle.value.specs.declared.Decoded.{Decoded}
-use Rattle.value.specs.declared.Decoded.TheVariants.{Valid, Invalid}
 use Rattle.value.specs.Operators.{pick}
 use Rattle.value.specs.Bytes.{decoded}
 use Rattle.value.specs.declared.Sense.{Sense}
@@ -24,151 +22,151 @@ use Rattle.machine_gates.proofs.Decide.{read_back}
 use Rattle.machine_gates.specs.Gates.{passing, dropping, unary_by, binary_by, constant_by, copy_by, t_by, f_by, m_by, e_by, ic_by, fm_by, fs_by}
 use Rattle.machine_gates.specs.Tables.{says}
 
-constant-says : (a b c g : Decoded) → says constant a b c g ≡ constant_by a g
+constant-says : (a b c g : Option Value) → says constant a b c g ≡ constant_by a g
 unfolding constant_by
-constant-says Invalid b c Invalid = refl
-constant-says (Valid t) b c Invalid = refl
-constant-says Invalid b c (Valid v) = refl
-constant-says (Valid t) b c (Valid v) = refl
+constant-says None b c None = refl
+constant-says (Some t) b c None = refl
+constant-says None b c (Some v) = refl
+constant-says (Some t) b c (Some v) = refl
 
-copy-says : (a b c g : Decoded) → says copy a b c g ≡ copy_by a g
+copy-says : (a b c g : Option Value) → says copy a b c g ≡ copy_by a g
 unfolding copy_by
-copy-says (Valid v) b c g = rw (read_back g) refl
-copy-says Invalid b c g = refl
+copy-says (Some v) b c g = rw (read_back g) refl
+copy-says None b c g = refl
 
-unary-says : (code : ℕ) → one-operand code ≡ true → (a b c g : Decoded) → says (operator code) a b c g ≡ unary_by code a g
+unary-says : (code : ℕ) → one-operand code ≡ true → (a b c g : Option Value) → says (operator code) a b c g ≡ unary_by code a g
 unfolding unary_by
-unary-says code e (Valid v) b c g = rw (e, read_back g) refl
-unary-says code e Invalid b c g = refl
+unary-says code e (Some v) b c g = rw (e, read_back g) refl
+unary-says code e None b c g = refl
 
-binary-says : (code : ℕ) → one-operand code ≡ false → (a b c g : Decoded) → says (operator code) a b c g ≡ binary_by code a b g
+binary-says : (code : ℕ) → one-operand code ≡ false → (a b c g : Option Value) → says (operator code) a b c g ≡ binary_by code a b g
 unfolding binary_by
-binary-says code e (Valid v) (Valid w) c g = rw (e, read_back g) refl
-binary-says code e (Valid v) Invalid c g = rw e refl
-binary-says code e Invalid b c g = refl
+binary-says code e (Some v) (Some w) c g = rw (e, read_back g) refl
+binary-says code e (Some v) None c g = rw e refl
+binary-says code e None b c g = refl
 
-T-says : (a b c g : Decoded) → says T-gate a b c g ≡ t_by a b g
+T-says : (a b c g : Option Value) → says T-gate a b c g ≡ t_by a b g
 unfolding t_by
-T-says Invalid b c g = refl
-T-says (Valid x) b c g = go (sense x) b
+T-says None b c g = refl
+T-says (Some x) b c g = go (sense x) b
   where
-    go : (s : Sense) (b : Decoded) →
-        told (decided (also first untouched) (T-rule (optional g) s) (heads (Valid x) b c))
+    go : (s : Sense) (b : Option Value) →
+        told (decided (also first untouched) (T-rule (optional g) s) (heads (Some x) b c))
         ≡ pick (true_sense s) (passing true true false b g) (dropping true true false b g)
-    go True (Valid v) = rw (read_back g) refl
-    go True Invalid = refl
-    go False (Valid v) = rw (read_back g) refl
-    go False Invalid = refl
-    go Neither (Valid v) = rw (read_back g) refl
-    go Neither Invalid = refl
+    go True (Some v) = rw (read_back g) refl
+    go True None = refl
+    go False (Some v) = rw (read_back g) refl
+    go False None = refl
+    go Neither (Some v) = rw (read_back g) refl
+    go Neither None = refl
 
-F-says : (a b c g : Decoded) → says F-gate a b c g ≡ f_by a b g
+F-says : (a b c g : Option Value) → says F-gate a b c g ≡ f_by a b g
 unfolding f_by
-F-says Invalid b c g = refl
-F-says (Valid x) b c g = go (sense x) b
+F-says None b c g = refl
+F-says (Some x) b c g = go (sense x) b
   where
-    go : (s : Sense) (b : Decoded) →
-        told (decided (also first untouched) (F-rule (optional g) s) (heads (Valid x) b c))
+    go : (s : Sense) (b : Option Value) →
+        told (decided (also first untouched) (F-rule (optional g) s) (heads (Some x) b c))
         ≡ pick (false_sense s) (passing true true false b g) (dropping true true false b g)
-    go True (Valid v) = rw (read_back g) refl
-    go True Invalid = refl
-    go False (Valid v) = rw (read_back g) refl
-    go False Invalid = refl
-    go Neither (Valid v) = rw (read_back g) refl
-    go Neither Invalid = refl
+    go True (Some v) = rw (read_back g) refl
+    go True None = refl
+    go False (Some v) = rw (read_back g) refl
+    go False None = refl
+    go Neither (Some v) = rw (read_back g) refl
+    go Neither None = refl
 
 -- M after its control, for M and FM alike
-M-by-sense : (x : Value) (b c g : Decoded) (r : Register) → decoded r ≡ g → (s : Sense) →
-    told (decided (also first untouched) (M-rule r s) (heads (Valid x) b c))
+M-by-sense : (x : Value) (b c g : Option Value) (r : Register) → decoded r ≡ g → (s : Sense) →
+    told (decided (also first untouched) (M-rule r s) (heads (Some x) b c))
     ≡ pick (true_sense s) (passing true true false b g)
     (pick (false_sense s) (passing true false true c g)
-    (does true false false (Valid err-value) Invalid Invalid g))
-M-by-sense x (Valid v) c g r e True = rw e refl
-M-by-sense x Invalid c g r e True = refl
-M-by-sense x b (Valid v) g r e False = rw e refl
-M-by-sense x b Invalid g r e False = refl
+    (does true false false (Some err-value) None None g))
+M-by-sense x (Some v) c g r e True = rw e refl
+M-by-sense x None c g r e True = refl
+M-by-sense x b (Some v) g r e False = rw e refl
+M-by-sense x b None g r e False = refl
 M-by-sense x b c g r e Neither = rw e refl
 
-M-says : (a b c g : Decoded) → says M-gate a b c g ≡ m_by a b c g
+M-says : (a b c g : Option Value) → says M-gate a b c g ≡ m_by a b c g
 unfolding m_by
-M-says Invalid b c g = refl
-M-says (Valid x) b c g = M-by-sense x b c g (optional g) (read_back g) (sense x)
+M-says None b c g = refl
+M-says (Some x) b c g = M-by-sense x b c g (optional g) (read_back g) (sense x)
 
-E-says : (a b c g : Decoded) → says E-gate a b c g ≡ e_by a b g
+E-says : (a b c g : Option Value) → says E-gate a b c g ≡ e_by a b g
 unfolding e_by
-E-says Invalid b c g = refl
-E-says (Valid x) b c g = go (sense x) b
+E-says None b c g = refl
+E-says (Some x) b c g = go (sense x) b
   where
-    go : (s : Sense) (b : Decoded) →
-        told (decided (also first untouched) (E-rule (optional g) s) (heads (Valid x) b c))
-        ≡ pick (neither_sense s) (does true false false (Valid err-value) Invalid Invalid g) (passing true true false b g)
-    go True (Valid v) = rw (read_back g) refl
-    go True Invalid = refl
-    go False (Valid v) = rw (read_back g) refl
-    go False Invalid = refl
+    go : (s : Sense) (b : Option Value) →
+        told (decided (also first untouched) (E-rule (optional g) s) (heads (Some x) b c))
+        ≡ pick (neither_sense s) (does true false false (Some err-value) None None g) (passing true true false b g)
+    go True (Some v) = rw (read_back g) refl
+    go True None = refl
+    go False (Some v) = rw (read_back g) refl
+    go False None = refl
     go Neither b = rw (read_back g) refl
 
-FM-says : (a b c g : Decoded) → says FM-gate a b c g ≡ fm_by a b c g
+FM-says : (a b c g : Option Value) → says FM-gate a b c g ≡ fm_by a b c g
 unfolding fm_by
-FM-says a b (Valid v) Invalid = refl
-FM-says a b Invalid Invalid = refl
-FM-says Invalid b c (Valid r) = refl
-FM-says (Valid x) b c (Valid r) = M-by-sense x b c (Valid true-value) (some true-value) refl (sense x)
+FM-says a b (Some v) None = refl
+FM-says a b None None = refl
+FM-says None b c (Some r) = refl
+FM-says (Some x) b c (Some r) = M-by-sense x b c (Some true-value) (some true-value) refl (sense x)
 
-FS-says : (a b c g : Decoded) → says FS-gate a b c g ≡ fs_by a b g
+FS-says : (a b c g : Option Value) → says FS-gate a b c g ≡ fs_by a b g
 unfolding fs_by
-FS-says a (Valid v) c Invalid = refl
-FS-says a Invalid c Invalid = refl
-FS-says Invalid b c (Valid r) = refl
-FS-says (Valid x) b c (Valid r) = go (sense x) b
+FS-says a (Some v) c None = refl
+FS-says a None c None = refl
+FS-says None b c (Some r) = refl
+FS-says (Some x) b c (Some r) = go (sense x) b
   where
-    go : (s : Sense) (b : Decoded) →
-        told (decided (also first untouched) (FS-rule r s) (heads (Valid x) b c))
-        ≡ pick (true_sense s) (does true false false (Valid r) Invalid Invalid (Valid r)) (passing true true false b b)
+    go : (s : Sense) (b : Option Value) →
+        told (decided (also first untouched) (FS-rule r s) (heads (Some x) b c))
+        ≡ pick (true_sense s) (does true false false (Some r) None None (Some r)) (passing true true false b b)
     go True b = refl
-    go False (Valid v) = refl
-    go False Invalid = refl
-    go Neither (Valid v) = refl
-    go Neither Invalid = refl
+    go False (Some v) = refl
+    go False None = refl
+    go Neither (Some v) = refl
+    go Neither None = refl
 
 -- IC after its control: the chosen input decides the row
-IC-true : (x y : Value) (c g : Decoded) (s : Sense) →
-    told (decided (also second (also first untouched)) (IC-table (optional g) True (as-truth s)) (heads (Valid x) (Valid y) c))
-    ≡ pick (true_sense s) (does true true false (Valid true-value) (Valid true-value) Invalid g)
-    (pick (not (as-truth s)) (does true true false (Valid false-value) Invalid (Valid true-value) g) idle)
+IC-true : (x y : Value) (c g : Option Value) (s : Sense) →
+    told (decided (also second (also first untouched)) (IC-table (optional g) True (as-truth s)) (heads (Some x) (Some y) c))
+    ≡ pick (true_sense s) (does true true false (Some true-value) (Some true-value) None g)
+    (pick (not (as-truth s)) (does true true false (Some false-value) None (Some true-value) g) idle)
 IC-true x y c g True = rw (read_back g) refl
 IC-true x y c g False = rw (read_back g) refl
 IC-true x y c g Neither = rw (read_back g) refl
 
-IC-false : (x z : Value) (b g : Decoded) (s : Sense) →
-    told (decided (also third (also first untouched)) (IC-table (optional g) False (as-truth s)) (heads (Valid x) b (Valid z)))
-    ≡ pick (true_sense s) (does true false true (Valid true-value) (Valid false-value) Invalid g)
-    (pick (not (as-truth s)) (does true false true (Valid false-value) Invalid (Valid false-value) g) idle)
+IC-false : (x z : Value) (b g : Option Value) (s : Sense) →
+    told (decided (also third (also first untouched)) (IC-table (optional g) False (as-truth s)) (heads (Some x) b (Some z)))
+    ≡ pick (true_sense s) (does true false true (Some true-value) (Some false-value) None g)
+    (pick (not (as-truth s)) (does true false true (Some false-value) None (Some false-value) g) idle)
 IC-false x z b g True = rw (read_back g) refl
 IC-false x z b g False = rw (read_back g) refl
 IC-false x z b g Neither = rw (read_back g) refl
 
-IC-says : (a b c g : Decoded) → says IC-gate a b c g ≡ ic_by a b c g
+IC-says : (a b c g : Option Value) → says IC-gate a b c g ≡ ic_by a b c g
 unfolding ic_by
-IC-says Invalid b c g = refl
-IC-says (Valid x) b c g = go (sense x) b c
+IC-says None b c g = refl
+IC-says (Some x) b c g = go (sense x) b c
   where
-    go : (s : Sense) (b c : Decoded) →
-        told (decided (also first untouched) (chosen s (IC-table (optional g) s)) (heads (Valid x) b c))
-        ≡ pick (true_sense s && is_true b) (does true true false (Valid true-value) (Valid true-value) Invalid g)
-        (pick (true_sense s && counts_false b) (does true true false (Valid false-value) Invalid (Valid true-value) g)
-        (pick (false_sense s && is_true c) (does true false true (Valid true-value) (Valid false-value) Invalid g)
-        (pick (false_sense s && counts_false c) (does true false true (Valid false-value) Invalid (Valid false-value) g)
-        (pick (neither_sense s) (does true false false (Valid false-value) Invalid (Valid err-value) g)
+    go : (s : Sense) (b c : Option Value) →
+        told (decided (also first untouched) (chosen s (IC-table (optional g) s)) (heads (Some x) b c))
+        ≡ pick (true_sense s && is_true b) (does true true false (Some true-value) (Some true-value) None g)
+        (pick (true_sense s && counts_false b) (does true true false (Some false-value) None (Some true-value) g)
+        (pick (false_sense s && is_true c) (does true false true (Some true-value) (Some false-value) None g)
+        (pick (false_sense s && counts_false c) (does true false true (Some false-value) None (Some false-value) g)
+        (pick (neither_sense s) (does true false false (Some false-value) None (Some err-value) g)
         idle))))
-    go True Invalid c = refl
-    go True (Valid y) c = IC-true x y c g (sense y)
-    go False b Invalid = refl
-    go False b (Valid z) = IC-false x z b g (sense z)
+    go True None c = refl
+    go True (Some y) c = IC-true x y c g (sense y)
+    go False b None = refl
+    go False b (Some z) = IC-false x z b g (sense z)
     go Neither b c = rw (read_back g) refl
 
 -- ---- the decision by the kind's byte
-module _ (a b c g : Decoded) where
+module _ (a b c g : Option Value) where
   pub decide-binary : (k : ℕ) → 1 ≤ k → k ≤ 9 → decide_at k a b c g ≡ binary_by k a b g
   unfolding decide_at kind_of
   decide-binary k h j =

@@ -1,14 +1,9 @@
 -- Each able firing of an IC gate falls under exactly one row of Brock's table (Rows.antt), one that is not able under none, and what is decided is
 -- that row's. Assumes nothing.
-use Rattle.std.specs.Prelude.{ℕ, ◌+◌, ◌≤◌, ◌≡◌, refl, ◌⊎◌, Bool, true, false, cond, not, ◌&&◌, List, [], ◌∷◌}
-use Rattle.value.specs.declared.Decoded.{Decoded}
-use Rattle.value.specs.declared.Decoded.TheVariants.{Valid, Invalid}
-use Rattle.value.specs.declared.Sense.{Sense}
-use Rattle.value.specs.declared.Sense.TheVariants.{True, False, Neither}
-use Rattle.value.specs.Senses.{sense}
+use Rattle.std.specs.Prelude.{ℕ, ◌+◌, ◌≡◌, ◌⊎◌, Bool, true, false, cond, List, [], ◌∷◌, Option, Some, None}
+use Rattle.value.specs.declared.Value.{Value}
 use Rattle.value.specs.Operators.{pick}
 use Rattle.network.specs.Values.{true-value, false-value, err-value}
-use Rattle.network.specs.Rules.{as-truth}
 use Rattle.machine_gates.specs.Decide.{Decided, does, idle}
 use Rattle.machine_gates.specs.Rows.{Row}
 
@@ -16,13 +11,13 @@ use Rattle.machine_gates.specs.Rows.{Row}
 abbrev pub count : Bool → Bool → Bool → Bool → Bool → ℕ
 count p q r s t = cond p 1 0 + (cond q 1 0 + (cond r 1 0 + (cond s 1 0 + (cond t 1 0 + 0))))
 
-abbrev pub first : Decoded → Bool → Bool → Bool → Bool → Bool → Decided
+abbrev pub first : Option Value → Bool → Bool → Bool → Bool → Bool → Decided
 first g p q r s t =
-    pick p (does true true false (Valid true-value) (Valid true-value) Invalid g)
-    (pick q (does true true false (Valid false-value) Invalid (Valid true-value) g)
-    (pick r (does true false true (Valid true-value) (Valid false-value) Invalid g)
-    (pick s (does true false true (Valid false-value) Invalid (Valid false-value) g)
-    (pick t (does true false false (Valid false-value) Invalid (Valid err-value) g)
+    pick p (does true true false (Some true-value) (Some true-value) None g)
+    (pick q (does true true false (Some false-value) None (Some true-value) g)
+    (pick r (does true false true (Some true-value) (Some false-value) None g)
+    (pick s (does true false true (Some false-value) None (Some false-value) g)
+    (pick t (does true false false (Some false-value) None (Some err-value) g)
     idle))))
 
 -- ---- what the one row does

@@ -4,13 +4,12 @@
 // none waits. The table of rules is network's specs/Rules, and
 // specs/Tables has that specs/Gates, which the code follows, is what that table says. A word in
 // memory that is no value comes here as no token. Assumes nothing.
-ghost use Rattle.std.specs.Prelude.{◌≡◌, ◌&&◌};
+ghost use Rattle.std.specs.Prelude.{◌≡◌};
 ghost use Rattle.value.specs.Bytes.{value_of, decoded, word_or};
 ghost use Rattle.machine_gates.specs.Decide.{is_absent, is_true, is_false, is_neither, counts_false};
 ghost use Rattle.machine_gates.specs.Gates.{applied};
 ghost use Rattle.machine_gates.specs.Words.{Tells};
 
-use value::Decoded;
 use value::bytes::{FALSE, NONE, TRUE};
 
 // Whether no token is there.
@@ -36,42 +35,24 @@ pub fn is_false(token: u64) -> bool
 pub fn is_neither(token: u64) -> bool
     ensures { Tells is_neither token result }
 {
-    if is_absent(token) {
-        return false;
-    }
-    if is_true(token) {
-        return false;
-    }
-    !is_false(token)
+    !is_absent(token) && !is_true(token) && !is_false(token)
 }
 
 // Whether a token is there and, as an iter?, counts as false: any but true.
 pub fn counts_false(token: u64) -> bool
     ensures { Tells counts_false token result }
 {
-    if is_absent(token) {
-        return false;
-    }
-    !is_true(token)
-}
-
-pub fn both(a: bool, b: bool) -> bool
-    ensures { result ≡ a && b }
-{
-    if a {
-        return b;
-    }
-    false
+    !is_absent(token) && !is_true(token)
 }
 
 // What the operator of a code gives; one that takes a single operand does not look at the second.
 pub fn applied_to(code: u8, a: u64, b: u64) -> u64
     ensures { result ≡ word_or (applied code (decoded (value_of a)) (decoded (value_of b))) }
 {
-    let Decoded::Valid(x) = value::bytes::from_word(a) else {
+    let Some(x) = value::bytes::from_word(a) else {
         return NONE;
     };
-    let Decoded::Valid(y) = value::bytes::from_word(b) else {
+    let Some(y) = value::bytes::from_word(b) else {
         return NONE;
     };
     value::bytes::to_word(value::apply_code(code, x, y))

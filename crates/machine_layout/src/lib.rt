@@ -3,8 +3,12 @@
 // write its figures. The layout itself is specs/Layout, the bytes of an operator specs/Record. All
 // figures of more than a byte lie lowest byte first. Assumes only that the memory is long enough.
 ghost use Rattle.std.specs.Prelude.{◌≡◌, ℕ, ◌+◌, ◌*◌, ◌≤◌, ◌<◌, length};
-ghost use Rattle.machine_layout.specs.Layout.{most_operators, most_links, most_capacity, most_inputs, most_results, records_at, links_at, number16, stored16, name_at, capacity_byte, operators_of, links_of, inputs_of, results_of, untaken_of, trigger_of, input_link, result_link, operator_at, register_at, link_from, need_from, need, addresses, size_of, capacity_of};
+ghost use Rattle.machine_layout.specs.Layout.{most_operators, most_links, most_capacity, most_inputs, most_results, records_at, registers_at, links_at, number16, stored16, name_at, capacity_byte, operators_of, links_of, inputs_of, results_of, untaken_of, trigger_of, port_of, input_link, result_link, operator_at, register_at, link_from, need_from, need, addresses, size_of, capacity_of};
 ghost use Rattle.machine_layout.specs.Record.{recorded, placed};
+
+mod place;
+
+pub use place::Stretches;
 
 // The most operators and links of a machine (specs/Layout), the most places of a link, inputs,
 // results and sets untaken.
@@ -50,10 +54,16 @@ pub const REGISTERS_AT: usize = 16640;
 
 pub const LINKS_AT: usize = 21760;
 
+// The bytes of a token, a value's word, in a link's stretch and in sets of values; and of the stretch
+// of a link with one place.
+pub const TOKEN_BYTES: usize = 5;
+
+pub const SLOT_BYTES: usize = TOKEN_BYTES + 1;
+
 // Where an operator's ports begin in its record.
 pub const PORTS_AT: usize = 2;
 
-// The ports in their order there.
+// The ports in their order there, inputs, then outputs, and how many there are.
 pub const FIRST_INPUT: usize = 0;
 
 pub const SECOND_INPUT: usize = 1;
@@ -65,6 +75,8 @@ pub const FIRST_OUTPUT: usize = 3;
 pub const SECOND_OUTPUT: usize = 4;
 
 pub const THIRD_OUTPUT: usize = 5;
+
+pub const PORTS: usize = 6;
 
 // The number that a port without a link, or a machine without a trigger, has for one.
 pub const NO_LINK: u16 = 65535;
@@ -102,26 +114,21 @@ pub struct Operator {
     pub register: u64,
 }
 
-fn byte_of(b: u8) -> usize
-    ensures { (result ≡ b) × (result < 256) }
-{
-    b as usize
-}
-
 // The figure of two bytes at `at`.
 pub fn number_at(mem: &[u8], at: usize) -> usize
     requires { at + 2 ≤ length mem.now }
     ensures { (result ≡ number16 mem.now at) × (result < 65536) }
 {
-    byte_of(mem[at]) + 256 * byte_of(mem[at + 1])
+    usize::from(mem[at]) + 256 * usize::from(mem[at + 1])
 }
 
 pub fn store_number(mem: &mut [u8], at: usize, x: u16)
     requires { at + 2 ≤ length mem.old }
     ensures { mem.new ≡ stored16 mem.old at x }
 {
-    mem[at] = (x % 256) as u8;
-    mem[at + 1] = (x / 256) as u8;
+    let [low, high] = x.to_le_bytes();
+    mem[at] = low;
+    mem[at + 1] = high;
 }
 
 pub fn operator_at(i: usize) -> usize
@@ -135,7 +142,7 @@ pub fn register_at(i: usize) -> usize
     requires { i < most_operators }
     ensures { result ≡ register_at i }
 {
-    REGISTERS_AT + 5 * i
+    REGISTERS_AT + TOKEN_BYTES * i
 }
 
 // Where the stretch of link l begins, of the links from `base` on; `size` is the length of a stretch.
@@ -154,12 +161,20 @@ pub fn name_at(mem: &[u8], at: usize, p: usize) -> usize
     number_at(mem, at + 2 * p)
 }
 
+// The link of port k of operator i: 0 to 2 an input, 3 to 5 an output.
+pub fn port_of(mem: &[u8], i: usize, k: usize) -> usize
+    requires { (registers_at ≤ length mem.now) × (i < most_operators) × (k < 6) }
+    ensures { (result ≡ port_of mem.now i k) × (result < 65536) }
+{
+    name_at(mem, operator_at(i) + PORTS_AT, k)
+}
+
 // The header's figures. The capacity as it is stored, in range or not:
 pub fn capacity_stored(mem: &[u8]) -> usize
     requires { records_at ≤ length mem.now }
     ensures { (result ≡ capacity_byte mem.now) × (result < 256) }
 {
-    byte_of(mem[CAPACITY_AT])
+    usize::from(mem[CAPACITY_AT])
 }
 
 pub fn operators(mem: &[u8]) -> usize
@@ -180,21 +195,21 @@ pub fn inputs(mem: &[u8]) -> usize
     requires { records_at ≤ length mem.now }
     ensures { (result ≡ inputs_of mem.now) × (result < 256) }
 {
-    byte_of(mem[INPUT_COUNT_AT])
+    usize::from(mem[INPUT_COUNT_AT])
 }
 
 pub fn results(mem: &[u8]) -> usize
     requires { records_at ≤ length mem.now }
     ensures { (result ≡ results_of mem.now) × (result < 256) }
 {
-    byte_of(mem[RESULT_COUNT_AT])
+    usize::from(mem[RESULT_COUNT_AT])
 }
 
 pub fn untaken(mem: &[u8]) -> usize
     requires { records_at ≤ length mem.now }
     ensures { (result ≡ untaken_of mem.now) × (result < 256) }
 {
-    byte_of(mem[UNTAKEN_AT])
+    usize::from(mem[UNTAKEN_AT])
 }
 
 pub fn trigger(mem: &[u8]) -> usize
@@ -225,7 +240,8 @@ pub fn capacity(mem: &[u8]) -> usize
     if mem.len() == 0 {
         return 1;
     }
-    let c = byte_of(mem[CAPACITY_AT]);
+    let c = usize::from(mem[CAPACITY_AT]);
+    // Two tests, no range's `contains`: it is no plainer, since the proof has to open the built range.
     if c < 1 {
         return 1;
     }
@@ -240,7 +256,7 @@ pub fn stretch_size(capacity: usize) -> usize
     requires { capacity ≤ most_capacity }
     ensures { result ≡ size_of capacity }
 {
-    5 * capacity + 1
+    TOKEN_BYTES * capacity + 1
 }
 
 // The bytes that a machine needs at a capacity (refusal 11).

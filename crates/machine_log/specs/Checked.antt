@@ -1,13 +1,12 @@
 -- The log checker (document 02, Job 3), as a function from what it is lent to its answer and every lent byte at its end: "a checker that follows such a log from an
 -- empty machine of a given capacity and hands out the results and their count". Its refusals in their order: 11, 14, the sheet's with its kinds line, 12, 15, 16.
 -- Definitions only; assumes nothing.
-use Rattle.std.specs.Prelude.{ℕ, ◌-◌, ◌*◌, ◌/◌, Bool, true, ◌&&◌, eqb, leb, ltb, length, get_or, drop}
+use Rattle.std.specs.Prelude.{ℕ, ◌-◌, ◌*◌, ◌/◌, Bool, true, ◌&&◌, eqb, leb, ltb, length, get_or, drop, Ok, Err}
 use mathlib.Core.List.{List, [], ◌∷◌, ◌++◌, flatten}
 use Rattle.value.specs.Operators.{pick}
 use Rattle.value_sets.specs.Sets.{set_ok}
 use Rattle.formula.specs.declared.Refusal.TheVariants.{Memory, Capacity, Set, LogLine, LogRefused}
-use Rattle.formula.specs.declared.Verdict.{Verdict}
-use Rattle.formula.specs.declared.Verdict.TheVariants.{Passed, Refused}
+use Rattle.formula.specs.Results.{Verdict}
 use Rattle.formula.specs.Refusals.{number_of}
 use Rattle.formula.specs.Tree.{formula_of}
 use Rattle.formula.specs.Widths.{width}
@@ -66,8 +65,8 @@ written_out results out = flatten results ++ drop (result_bytes * length results
 
 -- The tests of a sheet, then others.
 unfoldable pub behind : Verdict → Verdict → Verdict
-behind Passed later = later
-behind (Refused r row) later = Refused r row
+behind (Ok _) later = later
+behind (Err why) later = Err why
 
 -- 11 for the machine, by the capacity asked, and for the results; 14; the sheet's; 12; 15
 unfoldable pub opening : List ℕ → List ℕ → ℕ → List ℕ → ℕ → List ℕ → ℕ → ℕ → Verdict
@@ -80,7 +79,7 @@ opening sheet line capacity sets number log memBytes out_bytes =
     (behind (verdict_of sheet line)
     (after_check Set (whole (all_sets kinds (set_list kinds sets number)))
     (after_check LogLine (log_check number log)
-    Passed)))))
+    (Ok tt))))))
 
 -- "from an empty machine of a given capacity"
 unfoldable pub followed_log : List ℕ → List ℕ → ℕ → List ℕ → ℕ → List ℕ → List ℕ → Followed
@@ -99,8 +98,8 @@ told f w = answers (pick (eqb f.line 0) 0 (number_of LogRefused)) f.line (length
 
 unfoldable pub by_opening : Verdict → Followed → ℕ → List ℕ → List ℕ → Checked
 unfolding told
-by_opening Passed f w m out = checks (told f w) f.mem (written_out f.results out)
-by_opening (Refused r row) f w m out = checks (answers (number_of r) row 0 0) m out
+by_opening (Ok _) f w m out = checks (told f w) f.mem (written_out f.results out)
+by_opening (Err why) f w m out = checks (answers (number_of why.refusal) why.row 0 0) m out
 
 unfoldable pub checked : List ℕ → List ℕ → ℕ → List ℕ → ℕ → List ℕ → List ℕ → List ℕ → Checked
 unfolding by_opening opening followed_log width

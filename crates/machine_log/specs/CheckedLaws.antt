@@ -1,5 +1,5 @@
 -- The log checker test by test, as the code makes them, and what it comes to behind them: a machine that is started and a log that can be followed. Assumes nothing.
-use Rattle.std.specs.Prelude.{ℕ, ◌+◌, ◌*◌, ◌≤◌, ◌<◌, ◌≡◌, Bool, ◌&&◌, List, [], eqb}
+use Rattle.std.specs.Prelude.{ℕ, ◌+◌, ◌*◌, ◌≤◌, ◌<◌, ◌≡◌, Bool, ◌&&◌, List, [], eqb, Result, Ok, Err}
 use Rattle.std.proofs.Math.Path.{refl, sym, ap, subst}
 use Rattle.std.proofs.Common.{◌∙◌, arith}
 use Rattle.std.proofs.Math.Bool.{true, false}
@@ -8,14 +8,12 @@ use borrow.Author.Tests.{le-leb, lt-leb}
 use Rattle.std.proofs.Math.Dec.{leb}
 use Rattle.std.proofs.Math.ListN.{length, take, length-take}
 use Rattle.value.specs.Operators.{pick}
-use Rattle.formula.specs.declared.Check.{Check}
-use Rattle.formula.specs.declared.Check.TheVariants.{Passed as passes, Fault}
+use Rattle.formula.specs.declared.Refused.{Refused}
+use Rattle.formula.specs.Results.{Check, Verdict, refused}
+use Rattle.formula.proofs.Results.{same-row}
 use Rattle.formula.specs.declared.Figures.{Figures}
-use Rattle.formula.specs.declared.Reading.TheVariants.{Accepted}
 use Rattle.formula.specs.declared.Refusal.{Refusal}
 use Rattle.formula.specs.declared.Refusal.TheVariants.{Memory, Capacity, Set, LogLine, LogRefused}
-use Rattle.formula.specs.declared.Verdict.{Verdict}
-use Rattle.formula.specs.declared.Verdict.TheVariants.{Passed, Refused}
 use Rattle.formula.specs.Refusals.{number_of}
 use Rattle.formula.specs.Tree.{formula_of}
 use Rattle.formula.specs.Widths.{width}
@@ -31,8 +29,6 @@ use Rattle.machine_start.specs.StartLaws.{capacity-in, start-accepts, accepted-s
 use Rattle.machine_start.specs.Letters.{letters-lent}
 use Rattle.machine_start.specs.Untaken.{started-untaken}
 use Rattle.machine_log.specs.declared.LogAnswer.{LogAnswer}
-use Rattle.machine_log.specs.declared.Opening.{Opening}
-use Rattle.machine_log.specs.declared.Opening.TheVariants.{Passed as Opens, Refused as Rejects}
 use Rattle.machine_log.specs.declared.lines.Line.{Line}
 use Rattle.machine_log.specs.declared.lines.Line.TheVariants.{Push, Fire, Take, Malformed}
 use Rattle.machine_log.specs.declared.follow.Progress.{Progress}
@@ -46,12 +42,12 @@ use Rattle.machine_log.specs.FollowLaws.{Followable, Follows, push-listed, follo
 
 -- A refusal whose row is 0, one of a sheet's or one of a log's.
 abbrev Low : Verdict → Type 0
-Low v = (r : Refusal) (row : ℕ) → v ≡ Refused r row → row ≤ most_lines + 1
+Low v = (r : Refusal) (row : ℕ) → v ≡ refused r row → row ≤ most_lines + 1
 
-low-zero : (k : Refusal) → Low (Refused k 0)
-low-zero k r row e = let i : 0 ≡ row = cc e in omega arith
+low-zero : (k : Refusal) → Low (refused k 0)
+low-zero k r row e = let i : 0 ≡ row = same-row _ _ _ _ e in omega arith
 
-low-passed : {A B : Type 0} → A → B → Low Passed
+low-passed : {A B : Type 0} → A → B → Low (Ok tt)
 low-passed a b r row e = absurd (let z : ◌≡◌ {A = ℕ} 0 1 = cc e in omega arith)
 
 -- ---- 11 and 14
@@ -59,7 +55,7 @@ low-passed a b r row e = absurd (let z : ◌≡◌ {A = ℕ} 0 1 = cc e in omega
 abbrev pub lent_verdict : ℕ → ℕ → ℕ → ℕ → Verdict
 lent_verdict capacity bytes lent room =
     after_check Memory (whole (leb (need (size_of (capacity_in capacity))) lent))
-    (after_check Memory (whole (leb (room_for bytes) room)) (after_check Capacity (whole (leb 1 capacity && leb capacity 16)) Passed))
+    (after_check Memory (whole (leb (room_for bytes) room)) (after_check Capacity (whole (leb 1 capacity && leb capacity 16)) (Ok tt)))
 
 -- What passing them says.
 pub record Lends (capacity bytes lent room : ℕ) : Type 0 where
@@ -75,29 +71,29 @@ module _ (capacity bytes lent room : ℕ) where
   abbrev needed : ℕ
   needed = need (size_of (capacity_in capacity))
 
-  pub lent-memory : lent < needed → lends ≡ Refused Memory 0
+  pub lent-memory : lent < needed → lends ≡ refused Memory 0
   unfolding after_check
   lent-memory h = rw (lt-leb needed lent h) refl
 
   module _ (a : needed ≤ lent) where
-    pub lent-room : room < room_for bytes → lends ≡ Refused Memory 0
+    pub lent-room : room < room_for bytes → lends ≡ refused Memory 0
     unfolding after_check
     lent-room h = rw (le-leb needed lent a, lt-leb (room_for bytes) room h) refl
 
     module _ (b : room_for bytes ≤ room) where
-      pub lent_below : capacity < 1 → lends ≡ Refused Capacity 0
+      pub lent_below : capacity < 1 → lends ≡ refused Capacity 0
       unfolding after_check
       lent_below h = rw (le-leb needed lent a, le-leb (room_for bytes) room b, lt-leb 1 capacity h) refl
 
-      pub lent-above : 16 < capacity → lends ≡ Refused Capacity 0
+      pub lent-above : 16 < capacity → lends ≡ refused Capacity 0
       unfolding after_check
       lent-above h = rw (le-leb needed lent a, le-leb (room_for bytes) room b, le-leb 1 capacity (omega arith), lt-leb capacity 16 h) refl
 
-      pub lent-passes : 1 ≤ capacity → capacity ≤ 16 → lends ≡ Passed
+      pub lent-passes : 1 ≤ capacity → capacity ≤ 16 → lends ≡ Ok tt
       unfolding after_check
       lent-passes c d = rw (le-leb needed lent a, le-leb (room_for bytes) room b, le-leb 1 capacity c, le-leb capacity 16 d) refl
 
-  lent_by : (P : Verdict → Type 0) → P (Refused Memory 0) → P (Refused Capacity 0) → (Lends capacity bytes lent room → P Passed) → P lends
+  lent_by : (P : Verdict → Type 0) → P (refused Memory 0) → P (refused Capacity 0) → (Lends capacity bytes lent room → P (Ok tt)) → P lends
   lent_by P p q s = go (dec_lt lent needed) (dec_lt room (room_for bytes)) (dec_lt capacity 1) (dec_lt 16 capacity)
     where
       go : Dec (lent < needed) → Dec (room < room_for bytes) → Dec (capacity < 1) → Dec (16 < capacity) → P lends
@@ -112,59 +108,59 @@ module _ (capacity bytes lent room : ℕ) where
   lent_row : Low lends
   lent_row = lent_by Low (low-zero Memory) (low-zero Capacity) (λ s r row e. absurd (let z : ◌≡◌ {A = ℕ} 0 1 = cc e in omega arith))
 
-  lent-passed : lends ≡ Passed → Lends capacity bytes lent room
+  lent-passed : lends ≡ Ok tt → Lends capacity bytes lent room
   lent-passed =
-      lent_by (λ v. v ≡ Passed → Lends capacity bytes lent room) (λ e. absurd (let z : ◌≡◌ {A = ℕ} 0 1 = cc e in omega arith))
+      lent_by (λ v. v ≡ Ok tt → Lends capacity bytes lent room) (λ e. absurd (let z : ◌≡◌ {A = ℕ} 0 1 = cc e in omega arith))
       (λ e. absurd (let z : ◌≡◌ {A = ℕ} 0 1 = cc e in omega arith)) (λ s e. s)
 
 -- ---- 12 and 15
 
 abbrev pub log_verdict : List ℕ → List ℕ → ℕ → List ℕ → Verdict
-log_verdict kinds sets number log = after_check Set (whole (all_sets kinds (set_list kinds sets number))) (after_check LogLine (log_check number log) Passed)
+log_verdict kinds sets number log = after_check Set (whole (all_sets kinds (set_list kinds sets number))) (after_check LogLine (log_check number log) (Ok tt))
 
 module _ (kinds sets : List ℕ) (number : ℕ) (log : List ℕ) where
   abbrev good : Bool
   good = all_sets kinds (set_list kinds sets number)
 
-  pub log-no-set : good ≡ false → log_verdict kinds sets number log ≡ Refused Set 0
+  pub log-no-set : good ≡ false → log_verdict kinds sets number log ≡ refused Set 0
   unfolding after_check
   log-no-set e = rw e refl
 
-  pub log-fault : good ≡ true → (j : ℕ) → log_check number log ≡ Fault j → log_verdict kinds sets number log ≡ Refused LogLine j
+  pub log-fault : good ≡ true → (j : ℕ) → log_check number log ≡ Err j → log_verdict kinds sets number log ≡ refused LogLine j
   unfolding after_check
   log-fault e j f = rw (e, f) refl
 
-  pub log-passes : good ≡ true → log_check number log ≡ passes → log_verdict kinds sets number log ≡ Passed
+  pub log-passes : good ≡ true → log_check number log ≡ Ok tt → log_verdict kinds sets number log ≡ Ok tt
   unfolding after_check
   log-passes e f = rw (e, f) refl
 
-  log-by : (P : Verdict → Type 0) → P (Refused Set 0) → ((j : ℕ) → log_check number log ≡ Fault j → P (Refused LogLine j)) → (good ≡ true → log_check number log ≡ passes → P Passed)
+  log-by : (P : Verdict → Type 0) → P (refused Set 0) → ((j : ℕ) → log_check number log ≡ Err j → P (refused LogLine j)) → (good ≡ true → log_check number log ≡ Ok tt → P (Ok tt))
       → P (log_verdict kinds sets number log)
   unfolding after_check
   log-by P a b c = go good refl (log_check number log) refl
     where
-      go : (g : Bool) → good ≡ g → (k : Check) → log_check number log ≡ k → P (after_check Set (whole g) (after_check LogLine k Passed))
+      go : (g : Bool) → good ≡ g → (k : Check) → log_check number log ≡ k → P (after_check Set (whole g) (after_check LogLine k (Ok tt)))
       go false e k f = a
-      go true e (Fault j) f = b j f
-      go true e passes f = c e f
+      go true e (Err j) f = b j f
+      go true e (Ok _) f = c e f
 
 -- ---- an accepted sheet
 
 module _ (s line : List ℕ) where
-  few : verdict_of s line ≡ Passed → Modest (figures_of s)
+  few : verdict_of s line ≡ Ok tt → Modest (figures_of s)
   few e = answer-modest s line (figures_of s) (reading-passed s line e)
 
-  pub letters-few : verdict_of s line ≡ Passed → length (letters_of (formula_of s) line) ≤ 33
+  pub letters-few : verdict_of s line ≡ Ok tt → length (letters_of (formula_of s) line) ≤ 33
   unfolding letters_of figures_of
   letters-few e = omega (arith, length-take (length (inputs_of (formula_of s))) line, (few e).inputs)
 
-  pub width_few : verdict_of s line ≡ Passed → width (formula_of s) ≤ 16
+  pub width_few : verdict_of s line ≡ Ok tt → width (formula_of s) ≤ 16
   unfolding figures_of
   width_few e = (few e).results
 
   -- what the code takes from the reading
-  module _ (f : Figures) (e : reading_of s line ≡ Accepted f) where
-    passed : verdict_of s line ≡ Passed
+  module _ (f : Figures) (e : reading_of s line ≡ Ok f) where
+    passed : verdict_of s line ≡ Ok tt
     passed = accepted-passed s line f e
 
     pub letters-read : take f.inputs line ≡ letters_of (formula_of s) line
@@ -185,17 +181,17 @@ module _ (s line : List ℕ) where
 -- ---- all tests
 
 -- What the code's tests say, by their verdict.
-abbrev pub opened_by : Verdict → ℕ → ℕ → Opening
-opened_by Passed inputs wide = Opens inputs wide
-opened_by (Refused r row) inputs wide = Rejects r row
+abbrev pub opened_by : Verdict → ℕ → ℕ → Result (ℕ × ℕ) Refused
+opened_by (Ok _) inputs wide = Ok (inputs, wide)
+opened_by (Err why) inputs wide = Err why
 
-pub opened-refused : (v : Verdict) (i w : ℕ) (r : Refusal) (row : ℕ) → Rejects r row ≡ opened_by v i w → v ≡ Refused r row
-opened-refused Passed i w r row e = absurd (let z : ◌≡◌ {A = ℕ} 0 1 = cc e in omega arith)
-opened-refused (Refused q x) i w r row e = cc e
+pub opened-refused : (v : Verdict) (i w : ℕ) (r : Refusal) (row : ℕ) → refused r row ≡ opened_by v i w → v ≡ refused r row
+opened-refused (Ok _) i w r row e = absurd (let z : ◌≡◌ {A = ℕ} 0 1 = cc e in omega arith)
+opened-refused (Err why) i w r row e = cc e
 
-pub opened-passed : (v : Verdict) (i w inputs wide : ℕ) → Opens inputs wide ≡ opened_by v i w → (v ≡ Passed) × (inputs ≡ i) × (wide ≡ w)
-opened-passed Passed i w inputs wide e = (refl, cc e, cc e)
-opened-passed (Refused q x) i w inputs wide e = absurd (let z : ◌≡◌ {A = ℕ} 0 1 = cc e in omega arith)
+pub opened-passed : (v : Verdict) (i w inputs wide : ℕ) → Ok (inputs, wide) ≡ opened_by v i w → (v ≡ Ok tt) × (inputs ≡ i) × (wide ≡ w)
+opened-passed (Ok _) i w inputs wide e = let p : ◌≡◌ {A = ℕ × ℕ} (inputs, wide) (i, w) = cc e in (refl, ap (λ (z : ℕ × ℕ). z.0) p, ap (λ (z : ℕ × ℕ). z.1) p)
+opened-passed (Err why) i w inputs wide e = absurd (let z : ◌≡◌ {A = ℕ} 0 1 = cc e in omega arith)
 
 module _ (sheet line : List ℕ) (capacity : ℕ) (sets : List ℕ) (number : ℕ) (log : List ℕ) (lent room : ℕ) where
   abbrev opens : Verdict
@@ -212,56 +208,56 @@ module _ (sheet line : List ℕ) (capacity : ℕ) (sets : List ℕ) (number : �
       later = behind (verdict_of sheet line) (log_verdict kinds sets number log)
 
       go : (a b c : Bool) → after_check Memory (whole a) (after_check Memory (whole b) (after_check Capacity (whole c) later))
-          ≡ behind (after_check Memory (whole a) (after_check Memory (whole b) (after_check Capacity (whole c) Passed))) later
+          ≡ behind (after_check Memory (whole a) (after_check Memory (whole b) (after_check Capacity (whole c) (Ok tt)))) later
       go true true true = refl
       go true true false = refl
       go true false c = refl
       go false b c = refl
 
-  pub opening-lent : (r : Refusal) (row : ℕ) → lent_verdict capacity (length log) lent room ≡ Refused r row → opens ≡ Refused r row
+  pub opening-lent : (r : Refusal) (row : ℕ) → lent_verdict capacity (length log) lent room ≡ refused r row → opens ≡ refused r row
   unfolding behind
   opening-lent r row e = opening-is ∙ rw e refl
 
-  module _ (e : lent_verdict capacity (length log) lent room ≡ Passed) where
-    pub opening-sheet : (r : Refusal) (row : ℕ) → verdict_of sheet line ≡ Refused r row → opens ≡ Refused r row
+  module _ (e : lent_verdict capacity (length log) lent room ≡ Ok tt) where
+    pub opening-sheet : (r : Refusal) (row : ℕ) → verdict_of sheet line ≡ refused r row → opens ≡ refused r row
     unfolding behind
     opening-sheet r row f = opening-is ∙ rw (e, f) refl
 
-    pub opening-log : verdict_of sheet line ≡ Passed → opens ≡ log_verdict kinds sets number log
+    pub opening-log : verdict_of sheet line ≡ Ok tt → opens ≡ log_verdict kinds sets number log
     unfolding behind
     opening-log f = opening-is ∙ rw (e, f) refl
 
-  opening-by : (P : Verdict → Type 0) → ((r : Refusal) (row : ℕ) → lent_verdict capacity (length log) lent room ≡ Refused r row → P (Refused r row))
-      → ((r : Refusal) (row : ℕ) → verdict_of sheet line ≡ Refused r row → P (Refused r row))
-      → (lent_verdict capacity (length log) lent room ≡ Passed → verdict_of sheet line ≡ Passed → P (log_verdict kinds sets number log)) → P opens
+  opening-by : (P : Verdict → Type 0) → ((r : Refusal) (row : ℕ) → lent_verdict capacity (length log) lent room ≡ refused r row → P (refused r row))
+      → ((r : Refusal) (row : ℕ) → verdict_of sheet line ≡ refused r row → P (refused r row))
+      → (lent_verdict capacity (length log) lent room ≡ Ok tt → verdict_of sheet line ≡ Ok tt → P (log_verdict kinds sets number log)) → P opens
   opening-by P p q s = go (lent_verdict capacity (length log) lent room) refl (verdict_of sheet line) refl
     where
       go : (u : Verdict) → lent_verdict capacity (length log) lent room ≡ u → (v : Verdict) → verdict_of sheet line ≡ v → P opens
-      go (Refused r row) e v f = subst P (sym (opening-lent r row e)) (p r row e)
-      go Passed e (Refused r row) f = subst P (sym (opening-sheet e r row f)) (q r row f)
-      go Passed e Passed f = subst P (sym (opening-log e f)) (s e f)
+      go (Err why) e v f = subst P (sym (opening-lent why.refusal why.row e)) (p why.refusal why.row e)
+      go (Ok _) e (Err why) f = subst P (sym (opening-sheet e why.refusal why.row f)) (q why.refusal why.row f)
+      go (Ok _) e (Ok _) f = subst P (sym (opening-log e f)) (s e f)
 
   -- A refusal's row fits 32 bits.
   pub opening-row : Low opens
   opening-row =
-      opening-by Low (λ k x v r row e. let i : x ≡ row = cc e in omega (arith, lent_row capacity (length log) lent room k x v))
-      (λ k x v r row e. let i : x ≡ row = cc e in omega (arith, low-row sheet line k x v))
-      (λ e f. log-by kinds sets number log Low (low-zero Set) (λ j g r row z. let i : j ≡ row = cc z in omega (arith, fault-low number log j g)) low-passed)
+      opening-by Low (λ k x v r row e. let i : x ≡ row = same-row _ _ _ _ e in omega (arith, lent_row capacity (length log) lent room k x v))
+      (λ k x v r row e. let i : x ≡ row = same-row _ _ _ _ e in omega (arith, low-row sheet line k x v))
+      (λ e f. log-by kinds sets number log Low (low-zero Set) (λ j g r row z. let i : j ≡ row = same-row _ _ _ _ z in omega (arith, fault-low number log j g)) low-passed)
 
   -- What passing says.
   pub record Opened : Type 0 where
     pub lends : Lends capacity (length log) lent room
-    pub passed : verdict_of sheet line ≡ Passed
+    pub passed : verdict_of sheet line ≡ Ok tt
     pub all-good : all_sets kinds (set_list kinds sets number) ≡ true
-    pub well : log_check number log ≡ passes
+    pub well : log_check number log ≡ Ok tt
 
   abbrev Tells : Verdict → Type 0
-  Tells v = v ≡ Passed → Opened
+  Tells v = v ≡ Ok tt → Opened
 
-  never : (r : Refusal) (row : ℕ) → Tells (Refused r row)
+  never : (r : Refusal) (row : ℕ) → Tells (refused r row)
   never r row e = absurd (let z : ◌≡◌ {A = ℕ} 0 1 = cc e in omega arith)
 
-  pub opening-passed : opens ≡ Passed → Opened
+  pub opening-passed : opens ≡ Ok tt → Opened
   opening-passed =
       opening-by Tells (λ r row v. never r row) (λ r row v. never r row)
       (λ e f. log-by kinds sets number log Tells (never Set 0) (λ j g. never LogLine j)
@@ -305,12 +301,12 @@ module _ (sheet line : List ℕ) (capacity : ℕ) (sets : List ℕ) (number : �
   abbrev opensHere : Verdict
   opensHere = opening sheet line capacity sets number log (length m) (length out)
 
-  pub checked_refused : (r : Refusal) (row : ℕ) → opensHere ≡ Refused r row → checks (answers (number_of r) row 0 0) m out ≡ checked sheet line capacity sets number log m out
+  pub checked_refused : (r : Refusal) (row : ℕ) → opensHere ≡ refused r row → checks (answers (number_of r) row 0 0) m out ≡ checked sheet line capacity sets number log m out
   unfolding checked by_opening
   checked_refused r row e = rw e refl
 
   -- What is told and left behind them is the definition's.
-  pub checked-passed : opensHere ≡ Passed → (f : Followed) → f ≡ followed_log sheet line capacity sets number log m → (p : Progress) (m' out' : List ℕ) → Follows f out p m' out'
+  pub checked-passed : opensHere ≡ Ok tt → (f : Followed) → f ≡ followed_log sheet line capacity sets number log m → (p : Progress) (m' out' : List ℕ) → Follows f out p m' out'
       → (w : ℕ) → w ≡ width (formula_of sheet) → checks (told_by p w) m' out' ≡ checked sheet line capacity sets number log m out
   unfolding checked by_opening told
   checked-passed e f h p m' out' F w wide = rw (F.told, F.machine, F.results, wide, e, h) refl

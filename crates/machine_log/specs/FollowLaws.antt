@@ -1,11 +1,10 @@
 -- A log followed line by line, as the code goes through it, with the room for its results; and that only the sets that its lines name matter. Assumes nothing.
-use Rattle.std.specs.Prelude.{ℕ, zero, suc, ◌+◌, ◌*◌, ◌-◌, ◌/◌, ◌≤◌, ◌<◌, ◌≡◌, ◌≢◌, Bool, true, false, eqb, leb, ltb, length, take, drop}
+use Rattle.std.specs.Prelude.{ℕ, zero, suc, ◌+◌, ◌*◌, ◌-◌, ◌/◌, ◌≤◌, ◌<◌, ◌≡◌, ◌≢◌, Bool, true, false, eqb, leb, ltb, length, take, drop, Ok}
 use Rattle.std.proofs.Math.Path.{refl}
 use Rattle.std.proofs.Common.{sym, ap, ap₂, subst, ◌∙◌, arith, eq-eqb, ne_eqb, leb-true, length-append, length-drop, take-append-drop, drop_of_length-le, take_all, take_at, drop_at, drop-drop}
 use mathlib.Core.List.{List, [], ◌∷◌, ◌++◌, flatten, append-nil, append_assoc}
 use Rattle.std.proofs.Math.Decide.{dec_lt}
 use Rattle.value.specs.Operators.{pick}
-use Rattle.formula.specs.declared.Check.TheVariants.{Passed}
 use Rattle.formula.proofs.TreeLaws.{and-true}
 use Rattle.machine_layout.specs.Layout.{untaken_of}
 use Rattle.machine_calls.specs.Calls.{result_bytes}
@@ -236,6 +235,6 @@ module _ (number : ℕ) (a b : ℕ → List ℕ) (h : (n : ℕ) → 1 ≤ n → 
   lines_same (l ∷ ls) (e, es) j m r =
       rw (called_same l m e) (ap (λ (f : Followed). pick (eqb (called b l m).answer.refusal 0) f (followed_to j m r)) (lines_same ls es (suc j) _ _))
 
-  pub followed_same : (log : List ℕ) → log_check number log ≡ Passed → (m : List ℕ) → followed a (lines_of log) 1 m [] ≡ followed b (lines_of log) 1 m []
+  pub followed_same : (log : List ℕ) → log_check number log ≡ Ok tt → (m : List ℕ) → followed a (lines_of log) 1 m [] ≡ followed b (lines_of log) 1 m []
   unfolding lines_of
   followed_same log e m = lines_same (lines_of log) (listed_in number (line_count log) log (passed-listed number log e)) 1 m []

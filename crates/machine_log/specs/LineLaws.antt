@@ -1,5 +1,5 @@
 -- A log's lines as the code reads them: where in the bytes a line and its fields stand, the lines one after the other, and 15 over them. Assumes nothing.
-use Rattle.std.specs.Prelude.{ℕ, zero, suc, ◌+◌, ◌*◌, ◌-◌, ◌≤◌, ◌<◌, ◌≢◌, Bool, ◌&&◌, get_or, take, drop}
+use Rattle.std.specs.Prelude.{ℕ, zero, suc, ◌+◌, ◌*◌, ◌-◌, ◌≤◌, ◌<◌, ◌≢◌, Bool, ◌&&◌, get_or, take, drop, Ok, Err}
 use Rattle.std.proofs.Math.Path.{◌≡◌, refl, ap}
 use Rattle.std.proofs.Common.{sym, ap₂, ◌∙◌, take_all, take-take, take-add, drop_at, drop-drop, length-take-le, get_or-take, get_or-drop}
 use Rattle.std.proofs.Math.Bool.{true, false}
@@ -9,7 +9,6 @@ use borrow.Author.Tests.{le-leb, lt-leb, leb-true, eq-eqb, ne_eqb}
 use Rattle.std.proofs.Math.Dec.{leb}
 use Rattle.std.proofs.Math.ListN.{length, length-drop}
 use Rattle.std.proofs.Math.Seq.{slice}
-use Rattle.formula.specs.declared.Check.TheVariants.{Passed, Fault}
 use Rattle.formula.specs.Sheet.{field_of, field_text}
 use Rattle.formula.proofs.TestLaws.{passed-each, lowest-fault}
 use Rattle.machine_log.specs.declared.lines.Line.TheVariants.{Malformed}
@@ -114,18 +113,18 @@ module _ (number : ℕ) (log : List ℕ) where
       go false p q = absurd (let z : ◌≡◌ {A = ℕ} 0 1 = cc q in omega arith)
 
   -- A log that passes has no more lines than a log may have, and each is one of its list.
-  pub passed-few : log_check number log ≡ Passed → line_count log ≤ most_lines
+  pub passed-few : log_check number log ≡ Ok tt → line_count log ≤ most_lines
   passed-few e = go (line_count log) refl
     where
       go : (n : ℕ) → line_count log ≡ n → n ≤ most_lines
       go zero p = omega arith
       go (suc n) p = within (suc n) (passed-each (line_count log) (line_well number log) e (suc n) (omega arith) (omega arith))
 
-  pub passed-listed : log_check number log ≡ Passed → (j : ℕ) → j < line_count log → listed number (line_at log j) ≡ true
+  pub passed-listed : log_check number log ≡ Ok tt → (j : ℕ) → j < line_count log → listed number (line_at log j) ≡ true
   passed-listed e j h =
       sym (well-listed number log j (omega (arith, passed-few e)) h) ∙ passed-each (line_count log) (line_well number log) e (j + 1) (omega arith) (omega arith)
 
-  pub fault-low : (row : ℕ) → log_check number log ≡ Fault row → row ≤ most_lines + 1
+  pub fault-low : (row : ℕ) → log_check number log ≡ Err row → row ≤ most_lines + 1
   fault-low zero e = omega arith
   fault-low (suc zero) e = omega arith
   fault-low (suc (suc n)) e = let b = within (suc n) ((lowest-fault (line_count log) (line_well number log) (suc (suc n)) e).3 (suc n) (omega arith) (omega arith)) in omega arith

@@ -1,10 +1,8 @@
 -- A log of the partner's bench, line by line. Document 02, Job 3: "Its log has two six-character fields a line and a line feed: 1 and a set number, 2 and an
 -- operator number, or 3 and 0, for push, fire, take"; 15 "when a line is malformed, names a set not in the list or is line 4,097". The fields are those of a
 -- sheet (formula/specs/Sheet `field_of`). Lines count from 1. Definitions only; assumes nothing.
-use Rattle.std.specs.Prelude.{ℕ, zero, suc, ◌+◌, ◌*◌, ◌-◌, ◌/◌, Bool, true, false, cond, ◌&&◌, List, [], ◌∷◌, eqb, leb, length, get_or, take, drop}
-use Rattle.formula.specs.declared.Field.{Field}
-use Rattle.formula.specs.declared.Field.TheVariants.{Number, Malformed as malformed}
-use Rattle.formula.specs.declared.Check.{Check}
+use Rattle.std.specs.Prelude.{ℕ, zero, suc, ◌+◌, ◌*◌, ◌-◌, ◌/◌, Bool, true, false, cond, ◌&&◌, List, [], ◌∷◌, eqb, leb, length, get_or, take, drop, Some, None}
+use Rattle.formula.specs.Results.{Check, Field}
 use Rattle.formula.specs.Sheet.{field_of, field_text}
 use Rattle.formula.specs.Tests.{lowest}
 use Rattle.machine_log.specs.declared.lines.Line.{Line}
@@ -34,9 +32,9 @@ line_by what number =
 
 unfoldable pub by_fields : Field → Field → Line
 unfolding line_by
-by_fields (Number what) (Number number) = line_by what number
-by_fields (Number what) malformed = Malformed
-by_fields malformed second = Malformed
+by_fields (Some what) (Some number) = line_by what number
+by_fields (Some what) None = Malformed
+by_fields None second = Malformed
 
 -- A line from its bytes; one with too few, or without its line feed, is malformed.
 unfoldable pub line_of : List ℕ → Line

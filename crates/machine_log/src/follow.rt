@@ -9,18 +9,17 @@ ghost use Rattle.machine_log.specs.FollowLaws.{Followable, Follows};
 
 use crate::lines::{LINE_BYTES, Line, line_at};
 use formula::Refusal;
+use machine_calls::RESULT_BYTES;
 
 // How far a log was followed: the line that was refused, 0 where none was, and the results handed out.
+// No Option: the answer in C, whose row the line is, has 0 for none too.
 #[derive(Clone, Copy)]
 pub struct Progress {
     pub line: u32,
     pub count: u32,
 }
 
-// The bytes of a result set.
-pub const RESULT_BYTES: usize = 80;
-
-// Makes the call that a line names, and gives its refusal. A take writes to the start of `room`.
+// Makes the call that a line names, and gives its refusal by its number, as the calls' answers in C do. A take writes to the start of `room`.
 fn step(line: Line, sets: &[u8], size: usize, mem: &mut [u8], room: &mut [u8]) -> u32
     requires { Lent size sets.now mem.old room.old line }
     ensures { Stepped (set_at size sets.now) line mem.old room.old result mem.new room.new }
@@ -33,7 +32,7 @@ fn step(line: Line, sets: &[u8], size: usize, mem: &mut [u8], room: &mut [u8]) -
         }
         Line::Fire(operator) => machine_calls::fire(mem, operator).refusal,
         Line::Take => machine_calls::take(mem, room).refusal,
-        Line::Malformed => formula::refusal_number(Refusal::LogLine),
+        Line::Malformed => u32::from(Refusal::LogLine),
     }
 }
 
@@ -42,10 +41,8 @@ fn results_of(line: Line) -> u32
     ensures { result ≡ hands_out line }
 {
     match line {
-        Line::Push(_) => 0,
-        Line::Fire(_) => 0,
         Line::Take => 1,
-        Line::Malformed => 0,
+        Line::Push(_) | Line::Fire(_) | Line::Malformed => 0,
     }
 }
 
@@ -54,9 +51,8 @@ pub fn follow(log: &[u8], sets: &[u8], size: usize, mem: &mut [u8], out: &mut [u
     requires { Followable size sets.now log.now mem.old out.old }
     ensures { Follows (followed (set_at size sets.now) (lines_of log.now) 1 mem.old []) out.old result mem.new out.new }
 {
-    let mut j = 0;
     let mut count = 0;
-    while LINE_BYTES * j < log.len() {
+    for j in 0..log.len().div_ceil(LINE_BYTES) {
         let line = line_at(log, j);
         let at = RESULT_BYTES * count as usize;
         if step(line, sets, size, mem, &mut out[at..]) != 0 {
@@ -66,7 +62,6 @@ pub fn follow(log: &[u8], sets: &[u8], size: usize, mem: &mut [u8], out: &mut [u
             };
         }
         count += results_of(line);
-        j += 1;
     }
     Progress { line: 0, count }
 }

@@ -14,11 +14,12 @@ ghost use Rattle.formula.specs.Faults.{letters_of};
 ghost use Rattle.machine_log.specs.Checked.{checks, answers, room_for, width_of, opening, checked};
 ghost use Rattle.machine_log.specs.CheckedLaws.{lent_verdict, log_verdict, opened_by, told_by};
 
-use crate::follow::{Progress, RESULT_BYTES, follow};
+use crate::follow::{Progress, follow};
 use crate::lines::{LINE_BYTES, MOST_LINES, bad_line};
 use crate::sets::{VALUE_BYTES, are_sets};
-use formula::{Check, Reading, Refusal, Verdict};
-use machine_start::{capacity_asked, start};
+use formula::{Refusal, Refused, at_row};
+use machine_calls::RESULT_BYTES;
+use machine_start::{MOST_CAPACITY, capacity_asked, start};
 use sheet_read::read::read;
 
 // The checker's answer: document 01's number of a refusal, 0 where accepted; its row, which is the log's line for 15 and 16; the results
@@ -32,22 +33,13 @@ pub struct LogAnswer {
     pub width: u32,
 }
 
-// What the tests before a log is followed say: the refusal and its row, or the inputs and the width of the sheet's formula.
-#[derive(Clone, Copy)]
-pub enum Opening {
-    Refused(Refusal, usize),
-    Passed(usize, usize),
-}
-
 const MOST_RESULTS: usize = MOST_LINES / 2;
-
-const MOST_CAPACITY: u32 = 16;
 
 fn refused(r: Refusal, row: u32) -> LogAnswer
     ensures { result ≡ answers (number_of r) row 0 0 }
 {
     LogAnswer {
-        refusal: formula::refusal_number(r),
+        refusal: u32::from(r),
         row,
         count: 0,
         width: 0,
@@ -55,47 +47,63 @@ fn refused(r: Refusal, row: u32) -> LogAnswer
 }
 
 // The room for the results of a log of so many bytes: each takes a push's line and a take's.
+#[tactic(auto, unfolding(crate::specs::Checked::room_for))]
 fn room_for(bytes: usize) -> usize
     ensures { result ≡ room_for bytes }
 {
-    let results = bytes / (2 * LINE_BYTES);
-    if MOST_RESULTS < results {
-        return RESULT_BYTES * MOST_RESULTS;
-    }
-    RESULT_BYTES * results
+    RESULT_BYTES * (bytes / (2 * LINE_BYTES)).min(MOST_RESULTS)
 }
 
 // 11 and 14, for a log of so many bytes, by the bytes lent for the machine and for the results.
-fn test_lent(capacity: u32, bytes: usize, lent: usize, room: usize) -> Verdict
+fn test_lent(capacity: u32, bytes: usize, lent: usize, room: usize) -> Result<(), Refused>
     ensures { result ≡ lent_verdict capacity bytes lent room }
 {
     if lent < machine_layout::machine_need(capacity_asked(capacity)) {
-        return Verdict::Refused(Refusal::Memory, 0);
+        return Err(Refused {
+            refusal: Refusal::Memory,
+            row: 0,
+        });
     }
     if room < room_for(bytes) {
-        return Verdict::Refused(Refusal::Memory, 0);
+        return Err(Refused {
+            refusal: Refusal::Memory,
+            row: 0,
+        });
     }
     if capacity < 1 {
-        return Verdict::Refused(Refusal::Capacity, 0);
+        return Err(Refused {
+            refusal: Refusal::Capacity,
+            row: 0,
+        });
     }
     if MOST_CAPACITY < capacity {
-        return Verdict::Refused(Refusal::Capacity, 0);
+        return Err(Refused {
+            refusal: Refusal::Capacity,
+            row: 0,
+        });
     }
-    Verdict::Passed
+    Ok(())
 }
 
 // 12 and 15, for a formula of this width whose inputs are of these kinds.
-fn test_log(kinds: &[u8], sets: &[u8], number: u32, log: &[u8], width: usize) -> Opening
+fn test_log(
+    kinds: &[u8],
+    sets: &[u8],
+    number: u32,
+    log: &[u8],
+    width: usize,
+) -> Result<(usize, usize), Refused>
     requires { length kinds.now < 256 }
     ensures { result ≡ opened_by (log_verdict kinds.now sets.now number log.now) (length kinds.now) width }
 {
     if !are_sets(sets, number, kinds) {
-        return Opening::Refused(Refusal::Set, 0);
+        return Err(Refused {
+            refusal: Refusal::Set,
+            row: 0,
+        });
     }
-    match bad_line(log, number) {
-        Check::Fault(j) => Opening::Refused(Refusal::LogLine, j),
-        Check::Passed => Opening::Passed(kinds.len(), width),
-    }
+    at_row(Refusal::LogLine, bad_line(log, number))?;
+    Ok((kinds.len(), width))
 }
 
 // 11, 14, the sheet's tests, 12 and 15.
@@ -108,33 +116,21 @@ fn open_log(
     log: &[u8],
     lent: usize,
     room: usize,
-) -> Opening
+) -> Result<(usize, usize), Refused>
     ensures { result ≡ opened_by (opening sheet.now line.now capacity sets.now number log.now lent room)
         (length (letters_of (formula_of sheet.now) line.now)) (width (formula_of sheet.now)) }
 {
-    match test_lent(capacity, log.len(), lent, room) {
-        Verdict::Refused(r, row) => {
-            return Opening::Refused(r, row);
-        }
-        Verdict::Passed => {}
-    }
-    match read(sheet, line) {
-        Reading::Rejected(r, row) => Opening::Refused(r, row),
-        Reading::Accepted(f) => {
-            let inputs = f.inputs;
-            test_log(&line[..inputs], sets, number, log, f.results)
-        }
-    }
+    test_lent(capacity, log.len(), lent, room)?;
+    let f = read(sheet, line)?;
+    let inputs = f.inputs;
+    test_log(&line[..inputs], sets, number, log, f.results)
 }
 
 // The width of so many results.
 fn width_of(count: u32, width: u32) -> u32
     ensures { result ≡ width_of count width }
 {
-    if count == 0 {
-        return 0;
-    }
-    width
+    if count == 0 { 0 } else { width }
 }
 
 // The answer once a log is followed: 16 with the line that was refused, or accepted.
@@ -151,7 +147,7 @@ fn told(progress: Progress, width: u32) -> LogAnswer
         };
     }
     LogAnswer {
-        refusal: formula::refusal_number(Refusal::LogRefused),
+        refusal: u32::from(Refusal::LogRefused),
         row: progress.line,
         count,
         width: width_of(count, width),
@@ -181,8 +177,8 @@ pub fn check_log(
         mem.len(),
         out.len(),
     ) {
-        Opening::Refused(r, row) => refused(r, row as u32),
-        Opening::Passed(inputs, width) => {
+        Err(Refused { refusal, row }) => refused(refusal, row as u32),
+        Ok((inputs, width)) => {
             start(sheet, line, capacity, mem);
             let progress = follow(log, sets, VALUE_BYTES * inputs, mem, out);
             told(progress, width as u32)

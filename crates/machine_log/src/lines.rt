@@ -3,7 +3,6 @@
 ghost use Rattle.std.specs.Prelude.{◌≡◌, ◌*◌, ◌≤◌, length};
 ghost use Rattle.machine_log.specs.Lines.{line_bytes, line_by, by_fields, line_at, listed, log_check};
 
-use formula::{Check, Field};
 use sheet_fields::field::field_in;
 
 // A line by the call that it names.
@@ -25,7 +24,7 @@ const SECOND_AT: usize = 6;
 
 const LINE_FEED_AT: usize = 12;
 
-const LINE_FEED: u8 = 10;
+const LINE_FEED: u8 = b'\n';
 
 pub const MOST_LINES: usize = 4096;
 
@@ -36,34 +35,26 @@ const FIRE: u32 = 2;
 const TAKE: u32 = 3;
 
 // The line of two numbers.
+#[tactic(auto, unfolding(crate::specs::Lines::line_by))]
 fn line_by(what: u32, number: u32) -> Line
     ensures { result ≡ line_by what number }
 {
-    if what == PUSH {
-        return Line::Push(number);
+    match (what, number) {
+        (PUSH, n) => Line::Push(n),
+        (FIRE, operator) => Line::Fire(operator),
+        (TAKE, 0) => Line::Take,
+        _ => Line::Malformed,
     }
-    if what == FIRE {
-        return Line::Fire(number);
-    }
-    if what != TAKE {
-        return Line::Malformed;
-    }
-    if number != 0 {
-        return Line::Malformed;
-    }
-    Line::Take
 }
 
 // The line of two fields.
-fn by_fields(first: Field, second: Field) -> Line
+#[tactic(auto, unfolding(crate::specs::Lines::by_fields))]
+fn by_fields(first: Option<u32>, second: Option<u32>) -> Line
     ensures { result ≡ by_fields first second }
 {
-    match first {
-        Field::Malformed => Line::Malformed,
-        Field::Number(what) => match second {
-            Field::Malformed => Line::Malformed,
-            Field::Number(number) => line_by(what, number),
-        },
+    match (first, second) {
+        (Some(what), Some(number)) => line_by(what, number),
+        _ => Line::Malformed,
     }
 }
 
@@ -73,45 +64,32 @@ pub fn line_at(log: &[u8], j: usize) -> Line
     ensures { result ≡ line_at log.now j }
 {
     let at = LINE_BYTES * j;
-    if log.len() - at < LINE_BYTES {
-        return Line::Malformed;
-    }
-    if log[at + LINE_FEED_AT] != LINE_FEED {
+    if log.len() - at < LINE_BYTES || log[at + LINE_FEED_AT] != LINE_FEED {
         return Line::Malformed;
     }
     by_fields(field_in(log, at), field_in(log, at + SECOND_AT))
 }
 
 // Whether a line is one, and names a set of the list if it is a push.
+#[tactic(auto, unfolding(crate::specs::Lines::listed))]
 fn is_listed(number: u32, line: Line) -> bool
     ensures { result ≡ listed number line }
 {
     match line {
-        Line::Push(n) => {
-            if n < 1 {
-                return false;
-            }
-            n <= number
-        }
-        Line::Fire(_) => true,
-        Line::Take => true,
+        Line::Push(n) => (1..=number).contains(&n),
+        Line::Fire(_) | Line::Take => true,
         Line::Malformed => false,
     }
 }
 
 // 15: the lowest line that is malformed, names a set that is not in the list, or is one too many.
-pub fn bad_line(log: &[u8], number: u32) -> Check
+pub fn bad_line(log: &[u8], number: u32) -> Result<(), usize>
     ensures { result ≡ log_check number log.now }
 {
-    let mut j = 0;
-    while LINE_BYTES * j < log.len() {
-        if MOST_LINES <= j {
-            return Check::Fault(j + 1);
+    for j in 0..log.len().div_ceil(LINE_BYTES) {
+        if MOST_LINES <= j || !is_listed(number, line_at(log, j)) {
+            return Err(j + 1);
         }
-        if !is_listed(number, line_at(log, j)) {
-            return Check::Fault(j + 1);
-        }
-        j += 1;
     }
-    Check::Passed
+    Ok(())
 }

@@ -15,9 +15,8 @@ pub fn are_sets(sets: &[u8], number: u32, kinds: &[u8]) -> bool
         return true;
     }
     let size = VALUE_BYTES * kinds.len();
-    let mut at = 0;
-    let mut count = 0;
-    while count < number {
+    for count in 0..number {
+        let at = size * count as usize;
         if sets.len() - at < size {
             return false;
         }
@@ -25,8 +24,6 @@ pub fn are_sets(sets: &[u8], number: u32, kinds: &[u8]) -> bool
         if !value_sets::is_set(&sets[at..end], kinds) {
             return false;
         }
-        at = end;
-        count += 1;
     }
     true
 }

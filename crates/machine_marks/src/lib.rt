@@ -3,17 +3,18 @@
 // may be able, in words of 64 (specs/Words, specs/Held), and for each link the operator that takes
 // from it and the one that gives to it (specs/Users). Assumes only that the memory is long enough.
 ghost use Rattle.std.specs.Prelude.{◌≡◌, ◌≢◌, true, ℕ, ◌+◌, ◌*◌, ◌/◌, ◌≤◌, ◌<◌, length, get_or};
-ghost use Rattle.machine_layout.specs.Layout.{most_operators, registers_at, port_of};
+ghost use Rattle.machine_layout.specs.Layout.{most_operators, registers_at};
 ghost use Rattle.machine_marks.specs.Words.{mark_words, mark};
 ghost use Rattle.machine_marks.specs.Held.{held, left, Blank, Bare, Stands, Moved, Lowest, Cleared, Woke};
 ghost use Rattle.machine_marks.specs.Users.{Noted, Filled};
 
-// The words of marks, a word with all of them, and the operators of a word.
+// The words of marks, and a word with all of them.
 pub const MARK_WORDS: usize = 16;
 
 pub const ALL_MARKS: u64 = 18446744073709551615;
 
-const BLOCK: usize = 64;
+// The operators of a word.
+pub const BLOCK: usize = 64;
 
 // Two places a link, for its taker and its putter, and the number of no operator.
 pub const TAKER: usize = 0;
@@ -24,7 +25,18 @@ const SIDES: usize = 2;
 
 const SIDE_PORTS: usize = 3;
 
-const NO_USER: usize = 65535;
+// The places of the tables of links' users for few links, for more and for all that there can be.
+pub const FEW_LINKS: usize = 64;
+
+pub const FEW_USERS: usize = SIDES * FEW_LINKS;
+
+pub const MORE_LINKS: usize = 512;
+
+pub const MORE_USERS: usize = SIDES * MORE_LINKS;
+
+pub const USERS: usize = SIDES * machine_layout::LINKS;
+
+pub const NO_USER: u16 = 65535;
 
 // The marks of a block are held in a word, `here`; the others stand in the table, none below `low`.
 #[derive(Clone, Copy)]
@@ -34,19 +46,18 @@ pub struct Marks {
     pub low: usize,
 }
 
-// The first block from a place on with a mark, or MARK_WORDS.
+// The first block from a place on with a mark, or MARK_WORDS: a number past all is no harder to test
+// than an Option, and its loop no plainer by `position`, which counts from the place on.
 fn next_block(awake: &[u64], from: usize) -> usize
     requires { (mark_words ≤ length awake.now) × (from ≤ mark_words) }
     ensures { (from ≤ result) × (result ≤ mark_words) × (Blank awake.now from result) × (result < mark_words → get_or awake.now result 0 ≢ 0) }
 {
-    let mut b = from;
-    while b < MARK_WORDS {
+    for b in from..MARK_WORDS {
         if awake[b] != 0 {
             return b;
         }
-        b += 1;
     }
-    b
+    MARK_WORDS
 }
 
 // The held marks where there are any, else those of the next block that has some; 0 where none has.
@@ -70,7 +81,8 @@ pub fn forward(awake: &mut [u64], m: Marks) -> Marks
     m
 }
 
-// The first operator with a mark among those of the block, or the number past all where none is held.
+// The first operator with a mark among those of the block, or the number past all where none is held:
+// an Option is no plainer, since a run ends at every number past its operators.
 pub fn first_of(m: Marks) -> usize
     requires { m.block < mark_words }
     ensures { (result < most_operators → Lowest m result) × (most_operators ≤ result → m.here ≡ 0) }
@@ -88,8 +100,7 @@ pub fn without(m: Marks, u: usize) -> Marks
 {
     Marks {
         here: m.here & !(1u64 << (u % BLOCK)),
-        block: m.block,
-        low: m.low,
+        ..m
     }
 }
 
@@ -106,17 +117,12 @@ pub fn wake(awake: &mut [u64], m: Marks, u: usize) -> Marks
     if at == m.block {
         return Marks {
             here: m.here | bit,
-            block: m.block,
-            low: m.low,
+            ..m
         };
     }
-    awake[at] = awake[at] | bit;
+    awake[at] |= bit;
     if at < m.low {
-        return Marks {
-            here: m.here,
-            block: m.block,
-            low: at,
-        };
+        return Marks { low: at, ..m };
     }
     m
 }
@@ -133,26 +139,10 @@ pub fn backward(awake: &mut [u64], m: Marks) -> Marks
         return Marks {
             here: awake[low],
             block: low,
-            low: low,
+            low,
         };
     }
     m
-}
-
-// A user's number; that of no user is past every operator.
-fn user_number(x: u16) -> usize
-    ensures { (result ≡ x) × (result < 65536) }
-{
-    x as usize
-}
-
-// The link of port k of operator j: 0 to 2 an input, 3 to 5 an output.
-pub fn port_of(mem: &[u8], j: usize, k: usize) -> usize
-    requires { (registers_at ≤ length mem.now) × (j < most_operators) × (k < 6) }
-    ensures { (result ≡ port_of mem.now j k) × (result < 65536) }
-{
-    let at = machine_layout::operator_at(j);
-    machine_layout::name_at(mem, at + machine_layout::PORTS_AT, k)
 }
 
 // Notes operator j as link l's user on a side; false where it has one, or no place in the table.
@@ -164,7 +154,7 @@ fn note(users: &mut [u16], l: usize, side: usize, j: usize) -> bool
     if users.len() <= at {
         return machine_layout::LINKS <= l;
     }
-    if user_number(users[at]) == NO_USER {
+    if users[at] == NO_USER {
         users[at] = j as u16;
         return true;
     }
@@ -177,12 +167,9 @@ fn note_side(mem: &[u8], j: usize, side: usize, users: &mut [u16]) -> bool
     ensures { (length users.new ≡ length users.old) × (result ≡ true → Filled users.old mem.now (6 * j + 3 * side) → Filled users.new mem.now (6 * j + 3 * side + 3)) }
 {
     let first = SIDE_PORTS * side;
-    let mut k = 0;
-    while k < SIDE_PORTS {
-        let l = port_of(mem, j, first + k);
-        if note(users, l, side, j) {
-            k += 1;
-        } else {
+    for k in 0..SIDE_PORTS {
+        let l = machine_layout::port_of(mem, j, first + k);
+        if !note(users, l, side, j) {
             return false;
         }
     }
@@ -195,27 +182,26 @@ pub fn fill_users(mem: &[u8], n: usize, users: &mut [u16]) -> bool
     requires { (registers_at ≤ length mem.now) × (n ≤ most_operators) }
     ensures { (length users.new ≡ length users.old) × (result ≡ true → Filled users.new mem.now (6 * n)) }
 {
-    let mut j = 0;
-    while j < n {
+    for j in 0..n {
         if !note_side(mem, j, TAKER, users) {
             return false;
         }
         if !note_side(mem, j, PUTTER, users) {
             return false;
         }
-        j += 1;
     }
     true
 }
 
-// The user of link l on a side, or a number past every operator.
+// The user of link l on a side, or a number past every operator: an Option is no plainer, since
+// `wake` passes over such a number, which a table of altered memory may hold as well.
 pub fn user_of(users: &[u16], l: usize, side: usize) -> usize
     requires { (l < 65536) × (side < 2) }
     ensures { (result < 65536) × (2 * l + side < length users.now → result ≡ get_or users.now (2 * l + side) 0) }
 {
     let at = SIDES * l + side;
     if at < users.len() {
-        return user_number(users[at]);
+        return usize::from(users[at]);
     }
-    NO_USER
+    usize::from(NO_USER)
 }

@@ -9,8 +9,8 @@ use Rattle.std.proofs.Math.Decide.{dec_lt}
 use Rattle.std.proofs.Math.ListN.{length, get_or}
 use Rattle.std.proofs.lemmas.List.Edits.{sets}
 use Rattle.std.proofs.lemmas.List.{set-get_or}
+use Rattle.std.specs.Prelude as std
 use Rattle.value.specs.declared.Value.{Value}
-use Rattle.value.specs.declared.Decoded.{Decoded}
 use Rattle.value.specs.Operators.{pick}
 use Rattle.value.specs.Bytes.{decoded, word_or, word_bytes, word_at, stored}
 use Rattle.value.proofs.Words.{length-stored}
@@ -192,7 +192,7 @@ module _ (m : List ℕ) (t : ℕ) (long : tagged_need ≤ length m) (tag : t < m
 
 -- ---- an operator that does not remember
 -- a rule that leaves its register, decided
-rule-leaves : (g : Decoded) (f : Firing) (t : Taken) (hs : Input → Option Value) → Gives (λ h. h ≡ optional g) f → Leaves g (told (decided t f hs))
+rule-leaves : (g : std.Option Value) (f : Firing) (t : Taken) (hs : Input → Option Value) → Gives (λ h. h ≡ optional g) f → Leaves g (told (decided t f hs))
 rule-leaves g (takes i k) t hs s = go (λ v. rule-leaves g (k v) (also i t) hs (s v)) (hs i)
   where
     go : ((v : Value) → Leaves g (told (decided (also i t) (k v) hs))) → (o : Option Value) → Leaves g (told (with-head o (λ v. decided (also i t) (k v) hs)))
@@ -219,7 +219,7 @@ forgets kind h =
     or true x y p q = p
     or false x y p q = q
 
-decision-leaves : (kind : ℕ) (a b c g : Decoded) → kind < byte_of FM-gate → Leaves g (decide_at kind a b c g)
+decision-leaves : (kind : ℕ) (a b c g : std.Option Value) → kind < byte_of FM-gate → Leaves g (decide_at kind a b c g)
 unfolding decide_at
 decision-leaves kind a b c g h = go (kind_of kind) (forgets kind h)
   where
@@ -260,7 +260,7 @@ pub register-bytes-stay : (m : List ℕ) (base size i : ℕ) → ((j : ℕ) → 
     able_from m base size i ≡ true → stored m (register_at i) (plan_from m base size i).register ≡ m
 unfolding able_from ready_from plan_from planned decision_from
 register-bytes-stay m base size i small kind holds able =
-    ap (λ (g : Decoded). stored m (register_at i) (word_or g)) (decision-leaves (kind_byte m i) _ _ _ (register_of m i) kind (first-true _ _ able))
+    ap (λ (g : std.Option Value). stored m (register_at i) (word_or g)) (decision-leaves (kind_byte m i) _ _ _ (register_of m i) kind (first-true _ _ able))
     ∙ ap (stored m (register_at i)) holds
     ∙ stored_same m (register_at i) small
   where

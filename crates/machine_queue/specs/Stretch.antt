@@ -1,7 +1,7 @@
 -- The queue of a link as bytes. Document 01, "Running": "A link's waiting tokens fill one stretch of token memory .. Freed places are used
 -- again". A stretch is the count of waiting tokens, then five bytes a token (value's specs/Bytes), the oldest first. The word 0 is no token.
 -- Total: where the count does not fit the stretch (altered memory), nothing is added or removed. Assumes nothing.
-use Rattle.std.specs.Prelude.{ℕ, zero, suc, ◌+◌, ◌-◌, ◌*◌, Bool, true, false, List, [], ◌∷◌, length, get_or, drop, set, leb, eqb}
+use Rattle.std.specs.Prelude.{ℕ, zero, suc, ◌+◌, ◌-◌, ◌*◌, Bool, List, [], ◌∷◌, length, get_or, drop, set, leb, eqb}
 use Rattle.std.proofs.Math.Seq.{paste}
 use Rattle.value.specs.Operators.{pick}
 use Rattle.value.specs.Bytes.{word_at, stored}

@@ -7,19 +7,12 @@
 ghost use Rattle.std.specs.Prelude.{◌≡◌, ℕ, ◌+◌, ◌-◌, ◌*◌, ◌≤◌, ◌<◌, length, take, drop};
 ghost use Rattle.machine_queue.specs.Stretch.{head_of, room_in, appended, removed, waiting as waitingIn};
 
-// A count byte as a number.
-fn count_of(b: u8) -> usize
-    ensures { (result ≡ b) × (result < 256) }
-{
-    b as usize
-}
-
 // How many tokens wait.
 pub fn waiting(q: &[u8]) -> usize
     requires { 1 ≤ length q.now }
     ensures { (result ≡ waitingIn q.now) × (result < 256) }
 {
-    count_of(q[0])
+    usize::from(q[0])
 }
 
 // The oldest token's word, or 0 where none waits.
@@ -28,9 +21,10 @@ pub fn head(q: &[u8]) -> u64
     ensures { (result ≡ head_of q.now) × (result < 1099511627776) }
 {
     if q[0] == 0 {
-        return 0;
+        0
+    } else {
+        value::bytes::load(q, 1)
     }
-    value::bytes::load(q, 1)
 }
 
 // Whether a place is free.
@@ -38,15 +32,14 @@ pub fn room(q: &[u8]) -> bool
     requires { 6 ≤ length q.now }
     ensures { result ≡ room_in q.now }
 {
-    let end = 5 * count_of(q[0]) + 6;
-    end <= q.len()
+    5 * usize::from(q[0]) + 6 <= q.len()
 }
 
 pub fn append(q: &mut [u8], word: u64)
     requires { (6 ≤ length q.old) × (length q.old ≤ 81) }
     ensures { q.new ≡ appended q.old word }
 {
-    let n = count_of(q[0]);
+    let n = usize::from(q[0]);
     let at = 5 * n + 1;
     if at + 5 <= q.len() {
         value::bytes::store(q, at, word);
@@ -59,20 +52,14 @@ pub fn remove_first(q: &mut [u8])
     requires { 6 ≤ length q.old }
     ensures { q.new ≡ removed q.old }
 {
-    let n = count_of(q[0]);
+    let n = usize::from(q[0]);
     if n == 0 {
         return;
     }
-    let last = n - 1;
-    let end = 5 * last;
-    if q.len() < end + 6 {
+    let end = 5 * n + 1;
+    if q.len() < end {
         return;
     }
-    let mut i = 0;
-    while i < end {
-        let b = q[i + 6];
-        q[i + 1] = b;
-        i += 1;
-    }
-    q[0] = last as u8;
+    q.copy_within(6..end, 1);
+    q[0] = (n - 1) as u8;
 }

@@ -3,11 +3,11 @@
 // turn firing once. The definitions are specs/Rounds; the contract of the call is an equation on the
 // answer and on every lent byte, and asks nothing of the caller.
 ghost use Rattle.std.specs.Prelude.{◌≡◌, ◌≤◌, length};
-ghost use Rattle.machine_layout.specs.Layout.{most_operators, least_size, most_size, need};
+ghost use Rattle.machine_layout.specs.Layout.{most_operators, links_at, need};
 ghost use Rattle.machine_rounds.specs.Rounds.{swept, round, rounded, rounds_from, answers, outcome, ran_rounds};
 
 use formula::Refusal;
-use machine_layout::LINKS_AT;
+use machine_layout::Stretches;
 
 // The call's answer: the number of a refusal, 0 where accepted; the rounds in which something fired,
 // and their firings, which can be more than a number of 32 bits holds.
@@ -27,37 +27,36 @@ struct Made {
 }
 
 // One round of n operators: how many fired.
-fn one_round(mem: &mut [u8], size: usize, n: usize) -> u32
-    requires { (least_size ≤ size) × (size ≤ most_size) × (need size ≤ length mem.old) × (n ≤ most_operators) }
-    ensures { (swept mem.new result ≡ round size n mem.old) × (result ≤ n) }
+fn one_round(mem: &mut [u8], links: Stretches, n: usize) -> u32
+    requires { (links.base ≡ links_at) × (need links.size ≤ length mem.old) × (n ≤ most_operators) }
+    ensures { (swept mem.new result ≡ round links.size n mem.old) × (result ≤ n) }
 {
-    let mut i: usize = 0;
     let mut fired: u32 = 0;
-    while i < n {
-        if machine_operators::fire_at(mem, LINKS_AT, size, i) {
+    for i in 0..n {
+        if machine_operators::fire_at(mem, links, i) {
             fired += 1;
         }
-        i += 1;
     }
     fired
 }
 
 // At most the lent rounds. One in which nothing fires is the last and does not count.
-fn make_rounds(mem: &mut [u8], size: usize, n: usize, lent: u32) -> Made
-    requires { (least_size ≤ size) × (size ≤ most_size) × (need size ≤ length mem.old) × (n ≤ most_operators) }
-    ensures { rounded mem.new result.rounds result.firings ≡ rounds_from size n lent mem.old 0 0 }
+fn make_rounds(mem: &mut [u8], links: Stretches, n: usize, lent: u32) -> Made
+    requires { (links.base ≡ links_at) × (need links.size ≤ length mem.old) × (n ≤ most_operators) }
+    ensures { rounded mem.new result.rounds result.firings ≡ rounds_from links.size n lent mem.old 0 0 }
 {
-    let mut rounds: u32 = 0;
     let mut firings: u64 = 0;
-    while rounds < lent {
-        let fired = one_round(mem, size, n);
+    for rounds in 0..lent {
+        let fired = one_round(mem, links, n);
         if fired == 0 {
             return Made { rounds, firings };
         }
-        rounds += 1;
-        firings += fired as u64;
+        firings += u64::from(fired);
     }
-    Made { rounds, firings }
+    Made {
+        rounds: lent,
+        firings,
+    }
 }
 
 fn reply(refusal: u32, made: Made) -> RoundsAnswer
@@ -75,10 +74,9 @@ fn reply(refusal: u32, made: Made) -> RoundsAnswer
 pub fn run_rounds(mem: &mut [u8], lent: u32) -> RoundsAnswer
     ensures { outcome result mem.new ≡ ran_rounds mem.old lent }
 {
-    let stands = machine_calls::standing_of(mem);
-    if stands != 0 {
+    if let Err(r) = machine_calls::standing(mem) {
         return reply(
-            stands,
+            u32::from(r),
             Made {
                 rounds: 0,
                 firings: 0,
@@ -86,13 +84,13 @@ pub fn run_rounds(mem: &mut [u8], lent: u32) -> RoundsAnswer
         );
     }
     let n = machine_layout::operators(mem);
-    let size = machine_layout::stretch_size(machine_layout::capacity(mem));
-    let made = make_rounds(mem, size, n, lent);
+    let links = Stretches::of(mem);
+    let made = make_rounds(mem, links, n, lent);
     if made.rounds < lent {
         return reply(0, made);
     }
-    if machine_runs::idle(mem, LINKS_AT, size, n) {
+    if machine_runs::idle(mem, links, n) {
         return reply(0, made);
     }
-    reply(formula::refusal_number(Refusal::Unfinished), made)
+    reply(u32::from(Refusal::Unfinished), made)
 }

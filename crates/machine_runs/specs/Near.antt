@@ -1,13 +1,13 @@
 -- Which operators a firing can make able. One that meets the same first tokens and the same room is as able as before; a link that the firing operator gives to
 -- has another first token only where just one token waits afterwards, and one that it takes from has other room only where fewer than two places are free
 -- afterwards. Assumes that the memory is as long as its links need and that they begin behind the registers, and nothing of its contents.
-use Rattle.std.specs.Prelude.{ℕ, ◌+◌, ◌*◌, ◌≤◌, ◌<◌, ◌≡◌, ◌≢◌, Bool, List, length}
+use Rattle.std.specs.Prelude.{ℕ, ◌+◌, ◌*◌, ◌≤◌, ◌<◌, ◌≡◌, ◌≢◌, Bool, List, length, Option}
 use Rattle.std.proofs.Math.Path.{refl, ap}
 use Rattle.std.proofs.Common.{◌∙◌, inl, inr, arith, lt-ltb, le-ltb}
 use Rattle.std.proofs.Math.Bool.{true, false}
 use Rattle.std.proofs.Math.Decide.{dec_lt}
 use Rattle.std.proofs.Math.ListN.{get_or}
-use Rattle.value.specs.declared.Decoded.{Decoded}
+use Rattle.value.specs.declared.Value.{Value}
 use Rattle.value.specs.Operators.{pick}
 use Rattle.value.specs.Bytes.{word_at, decoded, value_of}
 use Rattle.machine_queue.specs.Stretch.{waiting, head_of, room_in}
@@ -60,7 +60,7 @@ unfolding taken
 is-taken true x l h e = e
 is-taken false x l h e = absurd (omega arith)
 
-is-given : (t : Decoded) (x l : ℕ) → l < 3105 → l ≡ given t x → l ≡ x
+is-given : (t : Option Value) (x l : ℕ) → l < 3105 → l ≡ given t x → l ≡ x
 unfolding given
 is-given t x l h = go (is_absent t)
   where
@@ -189,7 +189,7 @@ module _ (m : List ℕ) (base size : ℕ) (behind : links_at ≤ base) (h : need
       plan-same =
           rw (decision-same, port-fired j 0 jl (omega arith), port-fired j 1 jl (omega arith), port-fired j 2 jl (omega arith), port-fired j 3 jl (omega arith), port-fired j 4 jl (omega arith), port-fired j 5 jl (omega arith)) refl
 
-      room : (k : ℕ) (t : Decoded) → 3 ≤ k → k < 6 → room_from m' base size (given t (name m j k)) ≡ room_from m base size (given t (name m j k))
+      room : (k : ℕ) (t : Option Value) → 3 ≤ k → k < 6 → room_from m' base size (given t (name m j k)) ≡ room_from m base size (given t (name m j k))
       room k t lo hi =
           room-anywhere m m' base size (given t (name m j k))
           (λ lt. let e = is-given t (name m j k) (given t (name m j k)) lt refl in rw e (rooms k lo hi (rw e at lt)))

@@ -1,14 +1,13 @@
 -- After a firing an operator is not able while nothing waits on its first input: each kind takes from it first, but for FM and FS before their first
 -- firing, and a firing leaves them a value in their register. Assumes that the memory is as long as its links need and that they begin behind the registers.
-use Rattle.std.specs.Prelude.{ℕ, ◌≤◌, ◌<◌, ◌≡◌, Bool, true, false, ◌&&◌, List, length}
+use Rattle.std.specs.Prelude.{ℕ, ◌≤◌, ◌<◌, ◌≡◌, Bool, true, false, ◌&&◌, List, length, Some, None}
 use Rattle.std.proofs.Math.Path.{refl, ap}
 use Rattle.std.proofs.Common.{sym, subst, ◌∙◌, arith}
 use Rattle.std.proofs.lemmas.Bool.{false≢true}
 use Rattle.std.proofs.Math.Option.{Option, some, none, some-injective, none-ne-some}
+use Rattle.std.specs.Prelude as std
 use borrow.Author.Tests.{lt-ltb}
 use Rattle.value.specs.declared.Value.{Value}
-use Rattle.value.specs.declared.Decoded.{Decoded}
-use Rattle.value.specs.declared.Decoded.TheVariants.{Valid, Invalid}
 use Rattle.value.specs.Bytes.{InRange, word_or, decoded, value_of, word_at}
 use Rattle.value.proofs.Words.{value-of-word, value-in-range, no_value, word_lt}
 use Rattle.value.specs.declared.Sense.{Sense}
@@ -104,29 +103,29 @@ module _ (k : Kind) (hs : Input → Option Value) (ranged : (i : Input) → Rang
 
 -- ---- the machine's decision
 
-module _ (a b c g : Decoded) (ra : Ranged (optional a)) (rb : Ranged (optional b)) (rc : Ranged (optional c)) (rg : Ranged (optional g)) (b' c' g' : Decoded) where
+module _ (a b c g : std.Option Value) (ra : Ranged (optional a)) (rb : Ranged (optional b)) (rc : Ranged (optional c)) (rg : Ranged (optional g)) (b' c' g' : std.Option Value) where
   ranged : (i : Input) → Ranged (heads a b c i)
   ranged first = ra
   ranged second = rb
   ranged third = rc
 
   ruled-rests : (kind : Option Kind) → (told (ruled kind a b c g)).able ≡ true → Reads (optional (told (ruled kind a b c g)).register) (optional g') →
-      ruled kind Invalid b' c' g' ≡ none
+      ruled kind None b' c' g' ≡ none
   ruled-rests none = λ e q. refl
   ruled-rests (some k) = go (decided untouched (rule k (optional g)) (heads a b c)) refl
     where
       go : (o : Option Decision) → decided untouched (rule k (optional g)) (heads a b c) ≡ o → (told o).able ≡ true → Reads (optional (told o).register) (optional g') →
-          decided untouched (rule k (optional g')) (heads Invalid b' c') ≡ none
+          decided untouched (rule k (optional g')) (heads None b' c') ≡ none
       go none p e q = absurd (false≢true e)
       go (some d) p e q =
-          waits-none (rule k (optional g')) untouched (heads Invalid b' c')
+          waits-none (rule k (optional g')) untouched (heads None b' c')
           (next-waits k (heads a b c) ranged d (optional g') (reads d.register q) (rule k (optional g)) untouched (rule-rests k (optional g) rg) p) refl
         where
           reads : (x : Register) → Reads (optional (decoded x)) (optional g') → Reads x (optional g')
           reads (some v) q = q
           reads none q = tt
 
-  decide-rests : (kind : ℕ) → (decide_at kind a b c g).able ≡ true → Reads (optional (decide_at kind a b c g).register) (optional g') → decide_at kind Invalid b' c' g' ≡ idle
+  decide-rests : (kind : ℕ) → (decide_at kind a b c g).able ≡ true → Reads (optional (decide_at kind a b c g).register) (optional g') → decide_at kind None b' c' g' ≡ idle
   unfolding decide_at
   decide-rests kind e q = ap told (ruled-rests (kind_of kind) e q)
 
@@ -167,14 +166,14 @@ module _ (m : List ℕ) (base size : ℕ) (behind : links_at ≤ base) (h : need
   unfolding fired_from register_of
   register-read = rw able (go (decision_from m base size i).register register-is)
     where
-      go : (x : Decoded) → (plan_from m base size i).register ≡ word_or x → Reads (optional x) (optional (decoded (value_of (word_at (performed_from m base size i (plan_from m base size i)) (register_at i)))))
-      go (Valid v) e = λ b.
+      go : (x : std.Option Value) → (plan_from m base size i).register ≡ word_or x → Reads (optional x) (optional (decoded (value_of (word_at (performed_from m base size i (plan_from m base size i)) (register_at i)))))
+      go (Some v) e = λ b.
           let s = own-register m base size behind h i small (plan_from m base size i) (rw e (word_lt v b)) in
           rw (s ∙ e, value-of-word v b) refl
-      go Invalid e = tt
+      go None e = tt
 
   module _ (lt : name m i 0 < 3105) (empty : waiting (link_part_from m' base size (name m i 0)) ≡ 0) where
-    token-none : token_from m' base size (name m' i 0) ≡ Invalid
+    token-none : token_from m' base size (name m' i 0) ≡ None
     unfolding token_from head_from head_of
     token-none = rw (port-fired m base size behind h i small i 0 small (omega arith), lt-ltb (name m i 0) 3105 lt, empty, no_value) refl
 

@@ -1,12 +1,11 @@
 -- The header written and the links emptied from what the maker tells (maker/specs/Making), and that with the maker's memory this is an accepted start
 -- (Start.antt: started_memory). Assumes figures within the header's ranges, which an accepted sheet's graph has.
-use Rattle.std.specs.Prelude.{ℕ, zero, suc, ◌+◌, ◌-◌, ◌≤◌, ◌≡◌, refl, List, length, take, replicate}
+use Rattle.std.specs.Prelude.{ℕ, zero, suc, ◌+◌, ◌-◌, ◌≤◌, ◌≡◌, refl, List, length, take, replicate, Ok}
 use Rattle.std.proofs.Common.{sym, ap, ap₂, ◌∙◌, subst, arith, length-append, take_at, length-take-le}
 use Rattle.std.proofs.lemmas.List.{length-replicate}
 use Rattle.names.specs.Names.{below}
 use Rattle.names.proofs.Counts.{size_from-le}
-use Rattle.formula.specs.declared.Verdict.{Verdict}
-use Rattle.formula.specs.declared.Verdict.TheVariants.{Passed}
+use Rattle.formula.specs.Results.{Verdict}
 use Rattle.formula.specs.Tree.{Exp}
 use Rattle.formula.specs.Free.{free_e}
 use Rattle.formula.specs.Admitted.{AdmittedE}
@@ -93,7 +92,7 @@ made-modest x h few low = told-modest (made_of x) few low (made-inputs x) (made-
 abbrev pub answered : Making → StartAnswer
 answered x = record { refusal = 0; row = 0; operators = x.operators; inputs = x.inputs; results = x.results }
 
-pub built : (v : Verdict) (y x : Exp) (kinds : List ℕ) (c : ℕ) (m m₁ m₂ : List ℕ) (made : Making) → v ≡ Passed → y ≡ x → made ≡ making_of y → m₁ ≡ making_in m y
+pub built : (v : Verdict) (y x : Exp) (kinds : List ℕ) (c : ℕ) (m m₁ m₂ : List ℕ) (made : Making) → v ≡ Ok tt → y ≡ x → made ≡ making_of y → m₁ ≡ making_in m y
     → m₂ ≡ completed m₁ c made kinds → begun (answered made) m₂ ≡ by_verdict v x kinds c m
 unfolding started_memory
 built v y x kinds c m m₁ m₂ made p e f h k =

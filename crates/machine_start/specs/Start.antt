@@ -1,13 +1,12 @@
 -- Start: from a sheet, its kinds line, a capacity and the lent memory to the answer and every lent byte at its end. Document 01, "Running": "Start takes a link
 -- capacity of 1 to 16"; "Reading, start and evaluation make 1 to 10", and document 02, Job 6, 17 and 18 with the kinds line; "11 comes before all"; "14
 -- capacity outside 1..16 (start: after 11, before 1)". A refused start leaves every byte as it was. The layout is machine_layout/specs/Layout. Assumes nothing.
-use Rattle.std.specs.Prelude.{ℕ, zero, suc, ◌+◌, ◌*◌, ◌/◌, ◌%◌, cond, ◌&&◌, List, [], ◌∷◌, length, get_or, set, leb, ltb}
+use Rattle.std.specs.Prelude.{ℕ, zero, suc, ◌+◌, ◌*◌, ◌/◌, ◌%◌, cond, ◌&&◌, List, [], ◌∷◌, length, get_or, set, leb, ltb, Ok, Err}
 use Rattle.std.proofs.lemmas.List.Edits.{sets}
 use Rattle.value.specs.Operators.{pick}
 use Rattle.formula.specs.declared.Refusal.{Refusal}
 use Rattle.formula.specs.declared.Refusal.TheVariants.{Memory, Capacity}
-use Rattle.formula.specs.declared.Verdict.{Verdict}
-use Rattle.formula.specs.declared.Verdict.TheVariants.{Passed, Refused}
+use Rattle.formula.specs.Results.{Verdict}
 use Rattle.formula.specs.Refusals.{number_of}
 use Rattle.formula.specs.Tree.{Exp, formula_of}
 use Rattle.formula.specs.Tests.{verdict_of}
@@ -79,8 +78,8 @@ started_memory g kinds capacity m = emptied g.links (size_of capacity) (headed g
 
 unfoldable pub by_verdict : Verdict → Exp → List ℕ → ℕ → List ℕ → Begun
 unfolding started_memory made_of
-by_verdict Passed x kinds capacity m = begun (accepted (made_of x)) (started_memory (made_of x) kinds capacity m)
-by_verdict (Refused r row) x kinds capacity m = begun (refusal r row) m
+by_verdict (Ok _) x kinds capacity m = begun (accepted (made_of x)) (started_memory (made_of x) kinds capacity m)
+by_verdict (Err why) x kinds capacity m = begun (refusal why.refusal why.row) m
 
 -- 11, 14, then the sheet's with its kinds line
 unfoldable pub started : List ℕ → List ℕ → ℕ → List ℕ → Begun

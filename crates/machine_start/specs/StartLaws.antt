@@ -1,23 +1,21 @@
--- Laws of start's definitions: how its loops write names, the letters of kinds and empty links, and what start gives in each of its cases. Assumes nothing.
-use Rattle.std.specs.Prelude.{ℕ, suc, ◌+◌, ◌*◌, ◌≤◌, ◌<◌, ◌≡◌, Bool, true, false, ◌&&◌, List, leb, ltb, length, get_or, set, drop}
+-- Laws of start's definitions: how its loops write names and empty links, and what start gives in each of its cases. Assumes nothing.
+use Rattle.std.specs.Prelude.{ℕ, suc, ◌+◌, ◌*◌, ◌≤◌, ◌<◌, ◌≡◌, Bool, true, false, ◌&&◌, List, leb, ltb, length, get_or, set, Ok, Err}
 use Rattle.std.proofs.Math.Path.{refl}
-use Rattle.std.proofs.Common.{sym, ap, ◌∙◌, arith, drop_of_length-le, drop-cons}
-use Rattle.std.proofs.lemmas.List.Edits.{sets}
+use Rattle.std.proofs.Common.{ap, ◌∙◌, arith}
 use borrow.Author.Tests.{lt-ltb, le-ltb, le-leb, lt-leb, ltb-false, leb-true}
 use Rattle.value.specs.Operators.{pick}
 use Rattle.formula.specs.declared.Refusal.{Refusal}
 use Rattle.formula.specs.declared.Refusal.TheVariants.{Memory, Capacity}
-use Rattle.formula.specs.declared.Verdict.{Verdict}
-use Rattle.formula.specs.declared.Verdict.TheVariants.{Passed, Refused}
+use Rattle.formula.specs.Results.{Verdict, refused}
 use Rattle.formula.proofs.Refusals.{number-positive}
 use Rattle.formula.specs.Tree.{Exp, formula_of}
 use Rattle.formula.specs.Tests.{verdict_of}
 use Rattle.formula.specs.Faults.{letters_of}
 use Rattle.formula.specs.Acceptance.{Admissible, Kinded}
 use Rattle.formula.proofs.Acceptance.{passed-admissible, passed-kinded}
-use Rattle.machine_layout.specs.Layout.{input_kinds_at, stored16, size_of, link_from, need, capacity_in}
+use Rattle.machine_layout.specs.Layout.{stored16, size_of, link_from, need, capacity_in}
 use Rattle.graph.specs.Translation.{made_of}
-use Rattle.machine_start.specs.Start.{Begun, begun, refusal, accepted, figure_bytes, figured, named, lettered, cleared_from, started_memory, by_verdict, started}
+use Rattle.machine_start.specs.Start.{Begun, begun, refusal, accepted, figure_bytes, figured, named, cleared_from, started_memory, by_verdict, started}
 
 -- ---- the header's figures as they are written
 
@@ -36,27 +34,6 @@ named_none m at ls = refl
 pub named_more : (m : List ℕ) (at : ℕ) (ls : List ℕ) (j : ℕ) → stored16 (named j m at ls) (at + 2 * j) (get_or ls j 0) ≡ named (j + 1) m at ls
 unfolding named
 named_more m at ls j = let e : j + 1 ≡ suc j = omega arith in rw e refl
-
--- ---- letters
-
--- The memory with the letters from letter j on written.
-abbrev pub letters_from : List ℕ → List ℕ → ℕ → List ℕ
-letters_from m kinds j = sets m (input_kinds_at + j) (drop j kinds)
-
-pub letters-all : (m kinds : List ℕ) → letters_from m kinds 0 ≡ lettered m kinds
-unfolding lettered
-letters-all m kinds = refl
-
-pub letters-more : (m kinds : List ℕ) (j : ℕ) → j < length kinds → letters_from (set m (input_kinds_at + j) (get_or kinds j 0)) kinds (j + 1) ≡ letters_from m kinds j
-letters-more m kinds j h =
-    let d : j + 1 ≡ suc j = omega arith in
-    let e : input_kinds_at + (j + 1) ≡ suc (input_kinds_at + j) = omega arith in
-    let n : List ℕ = set m (input_kinds_at + j) (get_or kinds j 0) in
-    ap (λ (i : ℕ). sets n i (drop (j + 1) kinds)) e ∙ ap (λ (i : ℕ). sets n (suc (input_kinds_at + j)) (drop i kinds)) d
-    ∙ sym (ap (sets m (input_kinds_at + j)) (drop-cons kinds j 0 h))
-
-pub letters-end : (m kinds : List ℕ) (j : ℕ) → length kinds ≤ j → letters_from m kinds j ≡ m
-letters-end m kinds j h = ap (sets m (input_kinds_at + j)) (drop_of_length-le kinds h)
 
 -- ---- links
 
@@ -92,11 +69,11 @@ module _ (s line : List ℕ) (c : ℕ) (m : List ℕ) where
   started-read h k l = rw (le-ltb (length m) (need (size_of (capacity_in c))) h, le-leb 1 c k, le-leb c 16 l) refl
 
 module _ (v : Verdict) (x : Exp) (kinds : List ℕ) (c : ℕ) (m : List ℕ) where
-  pub verdict-refused : (r : Refusal) (row : ℕ) → v ≡ Refused r row → by_verdict v x kinds c m ≡ begun (refusal r row) m
+  pub verdict-refused : (r : Refusal) (row : ℕ) → v ≡ refused r row → by_verdict v x kinds c m ≡ begun (refusal r row) m
   unfolding by_verdict
   verdict-refused r row e = rw e refl
 
-  pub verdict-passed : v ≡ Passed → by_verdict v x kinds c m ≡ begun (accepted (made_of x)) (started_memory (made_of x) kinds c m)
+  pub verdict-passed : v ≡ Ok tt → by_verdict v x kinds c m ≡ begun (accepted (made_of x)) (started_memory (made_of x) kinds c m)
   unfolding by_verdict
   verdict-passed e = rw e refl
 
@@ -107,7 +84,7 @@ capacity-in c h k = rw (le-leb 1 c h, le-leb c 16 k) refl
 -- ---- an accepted start
 
 -- Where the sheet is accepted, the capacity is one of 1 to 16 and the memory as long as a machine needs, start accepts.
-pub start-accepts : (s line : List ℕ) (c : ℕ) (m : List ℕ) → verdict_of s line ≡ Passed → 1 ≤ c → c ≤ 16 → need (size_of c) ≤ length m → (started s line c m).answer.refusal ≡ 0
+pub start-accepts : (s line : List ℕ) (c : ℕ) (m : List ℕ) → verdict_of s line ≡ Ok tt → 1 ≤ c → c ≤ 16 → need (size_of c) ≤ length m → (started s line c m).answer.refusal ≡ 0
 start-accepts s line c m passed low high long =
     ap (λ (b : Begun). b.answer.refusal)
     (started-read s line c m (omega (arith, capacity-in c low high)) low high ∙ verdict-passed (verdict_of s line) (formula_of s) (letters_of (formula_of s) line) c m passed)
@@ -116,7 +93,7 @@ pub record AcceptedStart (s line : List ℕ) (c : ℕ) (m : List ℕ) : Type 0 w
   pub long : need (size_of c) ≤ length m
   pub some : 1 ≤ c
   pub most : c ≤ 16
-  pub passed : verdict_of s line ≡ Passed
+  pub passed : verdict_of s line ≡ Ok tt
   pub admissible : Admissible s
   pub kinded : Kinded s line
   pub whole : started s line c m ≡ begun (accepted (made_of (formula_of s))) (started_memory (made_of (formula_of s)) (letters_of (formula_of s) line) c m)
@@ -132,8 +109,8 @@ accepted-start s line c m e = go (ltb (length m) (need (size_of (capacity_in c))
     go true p b q d r v w h = absurd (omega arith)
     go false p false q d r v w h = absurd (omega arith)
     go false p true q false r v w h = absurd (omega arith)
-    go false p true q true r (Refused x row) w h = absurd (omega (arith, number-positive x))
-    go false p true q true r Passed w h =
+    go false p true q true r (Err why) w h = absurd (omega (arith, number-positive why.refusal))
+    go false p true q true r (Ok _) w h =
         let low : 1 ≤ c = leb-true 1 c q in
         let high : c ≤ 16 = leb-true c 16 r in
         let enough : need (size_of (capacity_in c)) ≤ length m = ltb-false (length m) (need (size_of (capacity_in c))) p in

@@ -12,11 +12,15 @@ ghost use Rattle.machine_layout.specs.Layout.{need, need_from, size_of, capacity
 ghost use Rattle.machine_start.specs.Start.{begun, refusal, figured, named, lettered, cleared_from, by_verdict, started};
 ghost use Rattle.machine_start.specs.Completed.{Modest, completed};
 
-use formula::Refusal;
+use formula::{Refusal, Refused};
 use machine_layout::{INPUT_KINDS_AT, LINKS_AT};
 use maker::{Making, make};
-use sheet_fields::blank;
-use sheet_read::read::{Tested, fill_tables};
+use sheet_fields::layout::MOST_ROWS;
+use sheet_fields::shape::MOST_FIELDS;
+use sheet_read::read::fill_tables;
+
+// The most places of a link.
+pub const MOST_CAPACITY: u32 = machine_layout::CAPACITY as u32;
 
 // Start's answer: document 01's number of a refusal, 0 where accepted; its row; the figures of the
 // graph, 0 on a refusal.
@@ -34,7 +38,7 @@ pub fn refused(r: Refusal, row: u32) -> StartAnswer
     ensures { result ≡ refusal r row }
 {
     StartAnswer {
-        refusal: formula::refusal_number(r),
+        refusal: u32::from(r),
         row,
         operators: 0,
         inputs: 0,
@@ -43,16 +47,15 @@ pub fn refused(r: Refusal, row: u32) -> StartAnswer
 }
 
 // The capacity by which the need is reckoned: 1 where the one asked is outside 1..16.
+#[tactic(auto, unfolding(machine_layout::specs::Layout::capacity_in))]
 pub fn capacity_asked(capacity: u32) -> usize
     ensures { (result ≡ capacity_in capacity) × (1 ≤ result) × (result ≤ 16) }
 {
-    if capacity < 1 {
-        return 1;
+    if (1..=MOST_CAPACITY).contains(&capacity) {
+        capacity as usize
+    } else {
+        1
     }
-    if 16 < capacity {
-        return 1;
-    }
-    capacity as usize
 }
 
 // Writes the header's figures: no set is untaken.
@@ -82,11 +85,8 @@ fn store_names(mem: &mut [u8], at: usize, links: &[u16])
     requires { (length links.now ≤ 32) × (at < 256) × (at + 2 * length links.now ≤ length mem.old) }
     ensures { mem.new ≡ named (length links.now) mem.old at links.now }
 {
-    let k = links.len();
-    let mut j = 0;
-    while j < k {
-        machine_layout::store_number(mem, at + 2 * j, links[j]);
-        j += 1;
+    for (j, link) in links.iter().enumerate() {
+        machine_layout::store_number(mem, at + 2 * j, *link);
     }
 }
 
@@ -95,12 +95,7 @@ fn store_kinds(mem: &mut [u8], kinds: &[u8])
     requires { (length kinds.now ≤ 32) × (138 ≤ length mem.old) }
     ensures { mem.new ≡ lettered mem.old kinds.now }
 {
-    let n = kinds.len();
-    let mut j = 0;
-    while j < n {
-        mem[INPUT_KINDS_AT + j] = kinds[j];
-        j += 1;
-    }
+    mem[INPUT_KINDS_AT..INPUT_KINDS_AT + kinds.len()].copy_from_slice(kinds);
 }
 
 // Empties the first k of the links from `base` on.
@@ -108,11 +103,9 @@ pub fn empty_links(mem: &mut [u8], base: usize, size: usize, k: usize)
     requires { (1 ≤ size) × (size ≤ 81) × (need_from base size ≤ length mem.old) × (k ≤ 3105) }
     ensures { mem.new ≡ cleared_from k base size mem.old }
 {
-    let mut l = 0;
-    while l < k {
+    for l in 0..k {
         let at = machine_layout::link_from(base, size, l);
         mem[at] = 0;
-        l += 1;
     }
 }
 
@@ -147,13 +140,13 @@ fn build(sheet: &[u8], line: &[u8], capacity: usize, mem: &mut [u8]) -> StartAns
     ensures { begun result mem.new ≡ by_verdict (verdict_of sheet.now line.now) (formula_of sheet.now)
         (letters_of (formula_of sheet.now) line.now) capacity mem.old }
 {
-    let mut fields = blank::fields();
-    let mut returned = blank::bytes();
-    let mut masks = blank::words();
+    let mut fields = [0u32; MOST_FIELDS];
+    let mut returned = [0u8; MOST_ROWS];
+    let mut masks = [0u64; MOST_ROWS];
     let tested = fill_tables(sheet, line, &mut fields, &mut returned, &mut masks);
     match tested {
-        Tested::Refused(r, row) => refused(r, row as u32),
-        Tested::Passed(_) => {
+        Err(Refused { refusal, row }) => refused(refusal, row as u32),
+        Ok(_) => {
             let rows = sheet.len() / 31;
             let end = 5 * rows;
             let made = make(&fields[..end], rows, &masks[..rows], &returned[..rows], mem);
@@ -173,16 +166,14 @@ fn build(sheet: &[u8], line: &[u8], capacity: usize, mem: &mut [u8]) -> StartAns
 }
 
 // Starts a machine for a sheet with its kinds line in the lent memory.
+#[tactic(auto, unfolding(crate::specs::Start::started))]
 pub fn start(sheet: &[u8], line: &[u8], capacity: u32, mem: &mut [u8]) -> StartAnswer
     ensures { begun result mem.new ≡ started sheet.now line.now capacity mem.old }
 {
     if mem.len() < machine_layout::machine_need(capacity_asked(capacity)) {
         return refused(Refusal::Memory, 0);
     }
-    if capacity < 1 {
-        return refused(Refusal::Capacity, 0);
-    }
-    if 16 < capacity {
+    if !(1..=MOST_CAPACITY).contains(&capacity) {
         return refused(Refusal::Capacity, 0);
     }
     build(sheet, line, capacity as usize, mem)

@@ -3,7 +3,8 @@
 // definitions are machine_tags' specs/TagCalls; each contract is an equation on the answer and on
 // every lent byte, and asks nothing of the caller. The links of a tag begin at its plane and have one
 // place each, so that what goes onto them and off them is done by the first machine's functions.
-ghost use Rattle.std.specs.Prelude.{◌≡◌, ℕ, ◌≤◌, ◌<◌, length};
+ghost use Rattle.std.specs.Prelude.{MatchOption, MatchResult, ◌≡◌, ℕ, ◌≤◌, ◌<◌, length};
+ghost use Rattle.formula.specs.Refusals.{number_of};
 ghost use Rattle.machine_layout.specs.Layout.{most_links, links_of};
 ghost use Rattle.machine_valid.specs.Below.{all_below};
 ghost use Rattle.machine_calls.specs.Calls.{outcome, handed};
@@ -14,17 +15,17 @@ use formula::Refusal;
 use machine_calls::{Answer, refused, reply};
 use machine_tag_valid::{SLOT_BYTES, TAGS, TAGS_AT};
 
-// 11 or 31, or 0 where the memory stands well.
-fn standing_of(mem: &[u8]) -> u32
-    ensures { result ≡ tag_standing mem.now }
+// Whether the memory stands well, else refusal 11 or 31.
+fn standing(mem: &[u8]) -> Result<(), Refusal>
+    ensures { MatchResult result (λ _. tag_standing mem.now ≡ 0) (λ r. (number_of r ≡ tag_standing mem.now) × (0 < number_of r)) }
 {
     if mem.len() < machine_tag_valid::TAGGED_NEED {
-        return formula::refusal_number(Refusal::Memory);
+        return Err(Refusal::Memory);
     }
-    if machine_tag_valid::is_valid(mem) {
-        return 0;
+    if !machine_tag_valid::is_valid(mem) {
+        return Err(Refusal::Altered);
     }
-    formula::refusal_number(Refusal::Altered)
+    Ok(())
 }
 
 // Whether no token of tag t is left on the first k links. The first byte of a link is the count of
@@ -34,11 +35,8 @@ fn are_empty(mem: &[u8], t: usize, k: usize) -> bool
     ensures { result ≡ all_below k (empty_link mem.now t) }
 {
     let base = machine_tag_valid::plane_at(t);
-    let mut l = 0;
-    while l < k {
-        if mem[machine_layout::link_from(base, SLOT_BYTES, l)] == 0 {
-            l += 1;
-        } else {
+    for l in 0..k {
+        if mem[machine_layout::link_from(base, SLOT_BYTES, l)] != 0 {
             return false;
         }
     }
@@ -56,41 +54,37 @@ fn is_free(mem: &[u8], t: usize) -> bool
     are_empty(mem, t, machine_layout::links(mem))
 }
 
-// The lowest free tag, or TAGS where there is none.
-fn lowest_free(mem: &[u8]) -> usize
+// The lowest free tag.
+fn lowest_free(mem: &[u8]) -> Option<usize>
     requires { (tagged_need ≤ length mem.now) × (links_of mem.now ≤ most_links) }
-    ensures { result ≡ lowest_free mem.now }
+    ensures { MatchOption result (lowest_free mem.now ≡ most_tags) (λ t. (t ≡ lowest_free mem.now) × (t < most_tags)) }
 {
-    let mut t = 0;
-    while t < TAGS {
+    for t in 0..TAGS {
         if is_free(mem, t) {
-            return t;
+            return Some(t);
         }
-        t += 1;
     }
-    TAGS
+    None
 }
 
 // Pushes one set under the lowest free tag, which is the answer's count.
 pub fn push(mem: &mut [u8], set: &[u8]) -> Answer
     ensures { outcome result mem.new ≡ tag_pushed mem.old set.now }
 {
-    let stands = standing_of(mem);
-    if stands != 0 {
-        return reply(stands, 0);
+    if let Err(r) = standing(mem) {
+        return refused(r);
     }
     if !machine_calls::is_set(mem, set) {
         return refused(Refusal::Set);
     }
-    let t = lowest_free(mem);
-    if TAGS <= t {
+    let Some(t) = lowest_free(mem) else {
         return refused(Refusal::NoTag);
-    }
-    let base = machine_tag_valid::plane_at(t);
+    };
+    let links = machine_tag_valid::plane(t);
     let trigger = machine_layout::trigger(mem);
-    machine_calls::enter(mem, base, SLOT_BYTES, machine_layout::inputs(mem), set);
+    machine_calls::enter(mem, links, machine_layout::inputs(mem), set);
     let token = value::bytes::to_word(value::Value::Truth(true));
-    machine_firing::append_to(mem, base, SLOT_BYTES, trigger, token);
+    machine_firing::append_to(mem, links, trigger, token);
     mem[TAGS_AT + t] = 1;
     reply(0, t as u32)
 }
@@ -99,9 +93,8 @@ pub fn push(mem: &mut [u8], set: &[u8]) -> Answer
 pub fn fire(mem: &mut [u8], operator: u32, tag: u32) -> Answer
     ensures { outcome result mem.new ≡ tag_fired mem.old operator tag }
 {
-    let stands = standing_of(mem);
-    if stands != 0 {
-        return reply(stands, 0);
+    if let Err(r) = standing(mem) {
+        return refused(r);
     }
     let i = operator as usize;
     if machine_layout::operators(mem) <= i {
@@ -111,8 +104,8 @@ pub fn fire(mem: &mut [u8], operator: u32, tag: u32) -> Answer
     if TAGS <= t {
         return refused(Refusal::NotAble);
     }
-    let base = machine_tag_valid::plane_at(t);
-    if machine_operators::fire_at(mem, base, SLOT_BYTES, i) {
+    let links = machine_tag_valid::plane(t);
+    if machine_operators::fire_at(mem, links, i) {
         return reply(0, 0);
     }
     refused(Refusal::NotAble)
@@ -123,9 +116,8 @@ pub fn fire(mem: &mut [u8], operator: u32, tag: u32) -> Answer
 pub fn run(mem: &mut [u8], firings: u32) -> Answer
     ensures { outcome result mem.new ≡ tag_ran mem.old firings }
 {
-    let stands = standing_of(mem);
-    if stands != 0 {
-        return reply(stands, 0);
+    if let Err(r) = standing(mem) {
+        return refused(r);
     }
     let n = machine_layout::operators(mem);
     let count = machine_tag_runs::run(mem, n, firings);
@@ -135,7 +127,7 @@ pub fn run(mem: &mut [u8], firings: u32) -> Answer
     if machine_tag_runs::idle(mem, n) {
         return reply(0, count);
     }
-    reply(formula::refusal_number(Refusal::Unfinished), count)
+    reply(u32::from(Refusal::Unfinished), count)
 }
 
 // Takes the result set of a tag: sixteen values of five bytes each into `out`.
@@ -145,9 +137,8 @@ pub fn take(mem: &mut [u8], tag: u32, out: &mut [u8]) -> Answer
     if out.len() < machine_calls::RESULT_BYTES {
         return refused(Refusal::Memory);
     }
-    let stands = standing_of(mem);
-    if stands != 0 {
-        return reply(stands, 0);
+    if let Err(r) = standing(mem) {
+        return refused(r);
     }
     let t = tag as usize;
     if TAGS <= t {
@@ -157,12 +148,12 @@ pub fn take(mem: &mut [u8], tag: u32, out: &mut [u8]) -> Answer
         return refused(Refusal::NoTagResult);
     }
     let results = machine_layout::results(mem);
-    let base = machine_tag_valid::plane_at(t);
-    if !machine_calls::are_ready(mem, base, SLOT_BYTES, results) {
+    let links = machine_tag_valid::plane(t);
+    if !machine_calls::are_ready(mem, links, results) {
         return refused(Refusal::NoTagResult);
     }
-    machine_calls::write_results(mem, base, SLOT_BYTES, results, out);
-    machine_calls::empty_results(mem, base, SLOT_BYTES, results);
+    machine_calls::write_results(mem, links, results, out);
+    machine_calls::empty_results(mem, links, results);
     mem[TAGS_AT + t] = 0;
     reply(0, results as u32)
 }

@@ -1,6 +1,6 @@
 -- The marks that a tag's operators begin a run with: those for whose first input a token waits. Every kind but FM and FS takes from that input first (network's specs/Rules), and a
 -- graph without `for` has neither, so no other operator is able. Assumes nothing.
-use Rattle.std.specs.Prelude.{ℕ, ◌+◌, ◌≤◌, ◌<◌, ◌≡◌, Bool, ◌&&◌, List, eqb, get_or, drop}
+use Rattle.std.specs.Prelude.{ℕ, ◌+◌, ◌≤◌, ◌<◌, ◌≡◌, Bool, ◌&&◌, List, eqb, get_or, drop, Some, None}
 use Rattle.std.proofs.Math.Path.{refl}
 use Rattle.std.proofs.Common.{ap, ◌∙◌, arith, get_or-take, get_or-drop}
 use Rattle.std.proofs.Math.Bool.{true, false}
@@ -8,8 +8,8 @@ use Rattle.std.proofs.Math.Option.{Option, some, none}
 use Rattle.std.proofs.Math.Decide.{ℕ_discrete}
 use borrow.Author.Tests.{lt-ltb, le-ltb, ne_eqb}
 use Rattle.std.proofs.Math.Dec.{leb}
-use Rattle.value.specs.declared.Decoded.{Decoded}
-use Rattle.value.specs.declared.Decoded.TheVariants.{Valid, Invalid}
+use Rattle.std.specs.Prelude as std
+use Rattle.value.specs.declared.Value.{Value}
 use Rattle.value.specs.Operators.{pick}
 use Rattle.value.proofs.Words.{no_value}
 use Rattle.network.specs.Rules.{Kind, constant, copy, operator, T-gate, F-gate, M-gate, E-gate, IC-gate, FM-gate, FS-gate}
@@ -26,13 +26,13 @@ use Rattle.machine_runs.specs.Marks.{Resting}
 
 -- ---- no token on the first input, no firing
 
-module _ (b c g : Decoded) where
+module _ (b c g : std.Option Value) where
   abbrev Idle : Option Kind → Type 0
-  Idle k = ruled k Invalid b c g ≡ none
+  Idle k = ruled k None b c g ≡ none
 
-  constant-idle : (r : Decoded) → ruled (some constant) Invalid b c r ≡ none
-  constant-idle (Valid v) = refl
-  constant-idle Invalid = refl
+  constant-idle : (r : std.Option Value) → ruled (some constant) None b c r ≡ none
+  constant-idle (Some v) = refl
+  constant-idle None = refl
 
   -- the bytes below FM's are those of the other kinds
   kind-idle : (kind : ℕ) → kind < byte_of FM-gate → Idle (kind_of kind)
@@ -52,7 +52,7 @@ module _ (b c g : Decoded) where
       or true x y p q = p
       or false x y p q = q
 
-module _ (m : List ℕ) (base i : ℕ) (kind : kind_byte m i < byte_of FM-gate) (none! : token_from m base least_size (port_of m i 0) ≡ Invalid) where
+module _ (m : List ℕ) (base i : ℕ) (kind : kind_byte m i < byte_of FM-gate) (none! : token_from m base least_size (port_of m i 0) ≡ None) where
   decision-idle : decision_from m base least_size i ≡ idle
   unfolding decision_from decide_at
   decision-idle = rw none! (ap told (kind-idle _ _ _ (kind_byte m i) kind))
@@ -63,11 +63,11 @@ module _ (m : List ℕ) (base i : ℕ) (kind : kind_byte m i < byte_of FM-gate) 
 
 -- ---- when there is none: the number is no link's, or the link's count is 0
 
-pub none-absent : (m : List ℕ) (base l : ℕ) → most_links ≤ l → token_from m base least_size l ≡ Invalid
+pub none-absent : (m : List ℕ) (base l : ℕ) → most_links ≤ l → token_from m base least_size l ≡ None
 unfolding token_from head_from
 none-absent m base l h = rw (le-ltb l most_links h, no_value) refl
 
-pub none-empty : (m : List ℕ) (base l : ℕ) → l < most_links → get_or m (link_from base least_size l) 0 ≡ 0 → token_from m base least_size l ≡ Invalid
+pub none-empty : (m : List ℕ) (base l : ℕ) → l < most_links → get_or m (link_from base least_size l) 0 ≡ 0 → token_from m base least_size l ≡ None
 unfolding token_from head_from head_of
 none-empty m base l h e =
     let at = link_from base least_size l in

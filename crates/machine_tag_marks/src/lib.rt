@@ -3,9 +3,8 @@
 // mark, and a step of the first that has one. `base` is the byte where the tag's links begin, a link's
 // stretch has one place. Between calls all marks stand in their sixteen words (specs/FirstMarks).
 // Assumes that the memory is as long as its links need and that they begin behind the registers.
-ghost use Rattle.std.specs.Prelude.{◌≡◌, false, ℕ, ◌+◌, ◌/◌, ◌≤◌, ◌<◌, length};
+ghost use Rattle.std.specs.Prelude.{◌≡◌, false, ℕ, ◌+◌, ◌/◌, ◌≤◌, ◌<◌, length, None};
 ghost use Rattle.network.specs.Rules.{FM-gate};
-ghost use Rattle.value.specs.declared.Decoded.TheVariants.{Invalid};
 ghost use Rattle.machine_layout.specs.Kinds.{byte_of};
 ghost use Rattle.machine_layout.specs.Layout.{most_operators, links_at, least_size, need_from, kind_byte, port_of};
 ghost use Rattle.machine_firing.specs.Links.{token_from};
@@ -15,23 +14,19 @@ ghost use Rattle.machine_marks.specs.Held.{held, Stands, Woke};
 ghost use Rattle.machine_runs.specs.Marks.{Resting};
 ghost use Rattle.machine_tag_marks.specs.FirstMarks.{FirstMark, Stepped};
 
-use machine_marks::Marks;
-
-// The bytes of a link's stretch, and the operators of a word.
-const SIZE: usize = 6;
-
-const BLOCK: usize = 64;
+use machine_layout::{SLOT_BYTES, Stretches};
+use machine_marks::{BLOCK, Marks};
 
 // Whether a token may wait on the first input of operator j.
 fn waits(mem: &[u8], base: usize, j: usize) -> bool
     requires { (need_from base least_size ≤ length mem.now) × (j < most_operators) }
-    ensures { result ≡ false → token_from mem.now base least_size (port_of mem.now j 0) ≡ Invalid }
+    ensures { result ≡ false → token_from mem.now base least_size (port_of mem.now j 0) ≡ None }
 {
-    let l = machine_marks::port_of(mem, j, machine_layout::FIRST_INPUT);
+    let l = machine_layout::port_of(mem, j, machine_layout::FIRST_INPUT);
     if machine_layout::LINKS <= l {
         return false;
     }
-    let at = machine_layout::link_from(base, SIZE, l);
+    let at = machine_layout::link_from(base, SLOT_BYTES, l);
     mem[at] != 0
 }
 
@@ -70,16 +65,14 @@ pub fn mark_plane(mem: &[u8], base: usize, n: usize, awake: &mut [u64]) -> usize
         block: 0,
         low: 0,
     };
-    let mut j = 0;
-    while j < n {
+    for j in 0..n {
         m = wake_waiting(mem, base, j, awake, m);
-        j += 1;
     }
     let least = machine_marks::backward(awake, m);
     settle(awake, least)
 }
 
-// Whether an operator fired, and the first one with a mark after that.
+// Whether an operator fired, and the first one with a mark after that, which there is in either case.
 #[derive(Clone, Copy)]
 pub struct Step {
     pub fired: bool,
@@ -94,11 +87,15 @@ pub fn step_plane(mem: &mut [u8], base: usize, users: &[u16], i: usize, awake: &
     let block = i / BLOCK;
     let m = Marks {
         here: awake[block],
-        block: block,
+        block,
         low: block,
     };
-    if machine_operators::fire_at(mem, base, SIZE, i) {
-        let woken = machine_runs::wake(mem, base, SIZE, users, i, awake, m);
+    let links = Stretches {
+        base,
+        size: SLOT_BYTES,
+    };
+    if machine_operators::fire_at(mem, links, i) {
+        let woken = machine_runs::wake(mem, links, users, i, awake, m);
         return Step {
             fired: true,
             next: settle(awake, woken),

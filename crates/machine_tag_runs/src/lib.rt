@@ -6,7 +6,7 @@
 // have made it able (specs/TagMarks). Assumes that the memory has its planes, and of its contents that
 // the operators are valid and none of a loop's.
 ghost use Rattle.std.specs.Prelude.{◌≡◌, true, ℕ, ◌+◌, ◌*◌, ◌/◌, ◌%◌, ◌≤◌, ◌<◌, length};
-ghost use Rattle.machine_layout.specs.Layout.{most_operators};
+ghost use Rattle.machine_layout.specs.Layout.{most_operators, most_links};
 ghost use Rattle.machine_marks.specs.Users.{Filled};
 ghost use Rattle.machine_planes.specs.Planes.{most_tags, plane_at, tagged_need};
 ghost use Rattle.machine_runs.specs.Run.{ran};
@@ -18,31 +18,20 @@ ghost use Rattle.machine_tag_marks.specs.FirstMarks.{FirstMark};
 ghost use Rattle.machine_tag_runs.specs.PlainFirings.{PlainBelow};
 ghost use Rattle.machine_tag_runs.specs.TagMarks.{words_of, Marked, LeastPair, PairStep};
 
-use machine_tag_valid::{SLOT_BYTES, TAGS, plane_at};
+use machine_marks::{FEW_LINKS, FEW_USERS, MORE_LINKS, MORE_USERS, USERS};
+use machine_tag_valid::{TAGS, plane, plane_at};
 
 // The words of marks of all tags, and a word with none.
 const TAG_WORDS: usize = 256;
 
 const NO_MARKS: u64 = 0;
 
-// The lengths of the tables of links' users, two places a link, and the most links of the first two.
-const FEW_LINKS: usize = 64;
-
-const FEW_USERS: usize = 128;
-
-const MORE_LINKS: usize = 512;
-
-const MORE_USERS: usize = 1024;
-
-const USERS: usize = 6210;
-
 // Fires the pair v if it can, and tells whether it did.
 fn fire_pair(mem: &mut [u8], v: usize) -> bool
     requires { (tagged_need ≤ length mem.old) × (v < 16 * most_operators) }
     ensures { (result ≡ able_under mem.old (v / 16) (v % 16)) × (mem.new ≡ fired_under mem.old (v / 16) (v % 16)) }
 {
-    let base = plane_at(v % TAGS);
-    machine_operators::fire_at(mem, base, SLOT_BYTES, v / TAGS)
+    machine_operators::fire_at(mem, plane(v % TAGS), v / TAGS)
 }
 
 // Scans from the first pair after each firing.
@@ -53,6 +42,7 @@ fn run_plain(mem: &mut [u8], n: usize, budget: u32) -> u32
     let pairs = TAGS * n;
     let mut count: u32 = 0;
     let mut v: usize = 0;
+    // Counts firings, of which a pair that is not able adds none: no `for`.
     while count < budget {
         if pairs <= v {
             return count;
@@ -72,14 +62,12 @@ fn mark_planes(mem: &[u8], n: usize, awake: &mut [u64], firsts: &mut [usize])
     requires { (tagged_need ≤ length mem.now) × (n ≤ most_operators) × (PlainBelow mem.now n) × (length awake.old ≡ 256) × (length firsts.old ≡ 16) }
     ensures { (length awake.new ≡ 256) × (length firsts.new ≡ 16) × ((t : ℕ) → t < most_tags → Marked mem.now n awake.new firsts.new t) }
 {
-    let mut t = 0;
-    while t < TAGS {
+    for t in 0..TAGS {
         let base = plane_at(t);
         let a = machine_marks::MARK_WORDS * t;
         let e = a + machine_marks::MARK_WORDS;
         let next = machine_tag_marks::mark_plane(mem, base, n, &mut awake[a..e]);
         firsts[t] = TAGS * next + t;
-        t += 1;
     }
 }
 
@@ -109,12 +97,10 @@ fn least_pair(firsts: &[usize]) -> usize
     ensures { LeastPair firsts.now result }
 {
     let mut v = firsts[0];
-    let mut t = 1;
-    while t < TAGS {
+    for t in 1..TAGS {
         if firsts[t] < v {
             v = firsts[t];
         }
-        t += 1;
     }
     v
 }
@@ -128,6 +114,7 @@ fn run_marked(mem: &mut [u8], n: usize, budget: u32, users: &[u16]) -> u32
     let mut firsts = [0usize; TAGS];
     mark_planes(mem, n, &mut awake, &mut firsts);
     let mut fired: u32 = 0;
+    // Counts firings, of which a pair that is not able adds none: no `for`.
     while fired < budget {
         let v = least_pair(&firsts);
         if n <= v / TAGS {
@@ -151,6 +138,15 @@ fn run_over(mem: &mut [u8], n: usize, budget: u32, users: &mut [u16]) -> u32
     run_plain(mem, n, budget)
 }
 
+// The run over a table of its own with so many places.
+fn run_in<const PLACES: usize>(mem: &mut [u8], n: usize, budget: u32) -> u32
+    requires { (tagged_need ≤ length mem.old) × (n ≤ most_operators) × (all_below n (operator_ok mem.old) ≡ true) × (all_below n (plain_kind mem.old) ≡ true) × (PLACES ≤ 2 * most_links) }
+    ensures { ran mem.new result ≡ tag_runs n budget mem.old 0 }
+{
+    let mut users = [machine_marks::NO_USER; PLACES];
+    run_over(mem, n, budget, &mut users)
+}
+
 // The run. Its table is as long as the stored number of links asks, in three steps: a blank one costs time.
 pub fn run(mem: &mut [u8], n: usize, budget: u32) -> u32
     requires { (tagged_need ≤ length mem.old) × (n ≤ most_operators) × (all_below n (operator_ok mem.old) ≡ true) × (all_below n (plain_kind mem.old) ≡ true) }
@@ -158,15 +154,12 @@ pub fn run(mem: &mut [u8], n: usize, budget: u32) -> u32
 {
     let links = machine_layout::links(mem);
     if links <= FEW_LINKS {
-        let mut few = [machine_layout::NO_LINK; FEW_USERS];
-        return run_over(mem, n, budget, &mut few);
+        return run_in::<FEW_USERS>(mem, n, budget);
     }
     if links <= MORE_LINKS {
-        let mut more = [machine_layout::NO_LINK; MORE_USERS];
-        return run_over(mem, n, budget, &mut more);
+        return run_in::<MORE_USERS>(mem, n, budget);
     }
-    let mut all = [machine_layout::NO_LINK; USERS];
-    run_over(mem, n, budget, &mut all)
+    run_in::<USERS>(mem, n, budget)
 }
 
 // Whether nothing can fire (refusal 36 is its opposite, after the lent firings).
@@ -175,13 +168,10 @@ pub fn idle(mem: &mut [u8], n: usize) -> bool
     ensures { (result ≡ tag_still mem.old n) × (mem.new ≡ mem.old) }
 {
     let pairs = TAGS * n;
-    let mut v = 0;
-    while v < pairs {
-        let base = plane_at(v % TAGS);
-        if machine_operators::able_at(mem, base, SLOT_BYTES, v / TAGS) {
+    for v in 0..pairs {
+        if machine_operators::able_at(mem, plane(v % TAGS), v / TAGS) {
             return false;
         }
-        v += 1;
     }
     true
 }

@@ -1,10 +1,9 @@
 -- The formula of an accepted start of the machine with tags has no for, so that its graph has no kind of operator behind M, which is what refusal 31 asks of it
 -- (machine_tags/specs/TagValid: plain_kind). Assumes an accepted start.
-use Rattle.std.specs.Prelude.{ℕ, ◌≤◌, ◌≡◌, refl, ◌≢◌, true, false, not, List, eqb}
+use Rattle.std.specs.Prelude.{ℕ, ◌≤◌, ◌≡◌, refl, ◌≢◌, true, false, not, List, eqb, Ok, Err}
 use Rattle.std.proofs.Common.{sym}
 use Rattle.std.proofs.lemmas.Bool.{false≢true, eqb-false, not-true}
-use Rattle.formula.specs.declared.Check.{Check}
-use Rattle.formula.specs.declared.Check.TheVariants.{Passed, Fault}
+use Rattle.formula.specs.Results.{Check}
 use Rattle.formula.specs.Sheet.{row_count, fields_of, field}
 use Rattle.formula.specs.Tree.{formula_of}
 use Rattle.formula.specs.Tests.{lowest, is-passed}
@@ -24,9 +23,9 @@ unfolding has_for
 no-for-row s h r l u =
     eqb-false (field (fields_of s) r 0) for_kind (not-true (eqb (field (fields_of s) r 0) for_kind) (passed-each (row_count s) (not_for (fields_of s)) (all (lowest (row_count s) (not_for (fields_of s))) h) r l u))
   where
-    all : (c : Check) → not (is-passed c) ≡ false → c ≡ Passed
-    all Passed e = refl
-    all (Fault row) e = absurd (false≢true (sym e))
+    all : (c : Check) → not (is-passed c) ≡ false → c ≡ Ok tt
+    all (Ok _) e = refl
+    all (Err row) e = absurd (false≢true (sym e))
 
 module _ (s line m : List ℕ) (A : AcceptedTagStart s line m) where
   pub accepted-loopless : Loopless (formula_of s)

@@ -1,11 +1,10 @@
 -- Start of the machine with tags (document 02, Job 12): from a sheet, its kinds line and the lent memory to the answer and every lent byte at its end. "It is a second
 -- machine for sheets without for"; "Capacity here is one token a tag on each link", so that no capacity is asked for; "Refusals: 19 when the sheet has a for, after 10",
 -- 11 before all. What stands once is a machine's at capacity 1 (machine_start/specs/Start); the planes and their tags' bytes are machine_planes/specs/Planes. Assumes nothing.
-use Rattle.std.specs.Prelude.{ℕ, zero, suc, ◌+◌, Bool, not, List, length, set, eqb, ltb}
+use Rattle.std.specs.Prelude.{ℕ, zero, suc, ◌+◌, Bool, not, List, length, set, eqb, ltb, Ok, Err}
 use Rattle.value.specs.Operators.{pick}
 use Rattle.formula.specs.declared.Refusal.TheVariants.{Memory, Loop}
-use Rattle.formula.specs.declared.Verdict.{Verdict}
-use Rattle.formula.specs.declared.Verdict.TheVariants.{Passed, Refused}
+use Rattle.formula.specs.Results.{Verdict}
 use Rattle.formula.specs.Sheet.{row_count, fields_of, field}
 use Rattle.formula.specs.Tree.{Exp, formula_of}
 use Rattle.formula.specs.Tests.{lowest, is-passed, verdict_of}
@@ -43,8 +42,8 @@ tag_started_memory g kinds m = emptied_tags most_tags g.links (set (started_memo
 
 -- the sheet's refusal, then "19 when the sheet has a for, after 10", row 0
 unfoldable pub tag_by_verdict : Verdict → Bool → Exp → List ℕ → List ℕ → Begun
-tag_by_verdict (Refused r row) loops x kinds m = begun (refusal r row) m
-tag_by_verdict Passed loops x kinds m = pick loops (begun (refusal Loop 0) m) (begun (accepted (made_of x)) (tag_started_memory (made_of x) kinds m))
+tag_by_verdict (Err why) loops x kinds m = begun (refusal why.refusal why.row) m
+tag_by_verdict (Ok _) loops x kinds m = pick loops (begun (refusal Loop 0) m) (begun (accepted (made_of x)) (tag_started_memory (made_of x) kinds m))
 
 -- 11, then the sheet's with its kinds line, 19
 unfoldable pub tag_started : List ℕ → List ℕ → List ℕ → Begun
@@ -56,5 +55,5 @@ tag_started sheet line m =
 -- ---- what a sheet with a for gets
 
 abbrev pub loop_answer : Verdict → StartAnswer
-loop_answer Passed = refusal Loop 0
-loop_answer (Refused r row) = refusal r row
+loop_answer (Ok _) = refusal Loop 0
+loop_answer (Err why) = refusal why.refusal why.row

@@ -1,13 +1,12 @@
 -- What the start of the machine with tags gives in each of its cases, how its loops go, and that it goes by the start of a machine at capacity 1 where the sheet has no for.
 -- Assumes nothing.
-use Rattle.std.specs.Prelude.{ℕ, suc, ◌+◌, ◌-◌, ◌*◌, ◌≤◌, ◌<◌, ◌≡◌, Bool, List, ltb, length, get_or, set, take}
+use Rattle.std.specs.Prelude.{ℕ, suc, ◌+◌, ◌-◌, ◌*◌, ◌≤◌, ◌<◌, ◌≡◌, Bool, List, ltb, length, get_or, set, take, Ok, Err}
 use Rattle.std.proofs.Math.Path.{refl, sym}
 use Rattle.std.proofs.Common.{ap, ap₂, ◌∙◌, arith, get_or-take, get_or-append-add, length-take-le, lt-ltb, le-ltb, ltb-true, ltb-false}
 use Rattle.std.proofs.Math.Bool.{true, false}
 use Rattle.formula.specs.declared.Refusal.{Refusal}
 use Rattle.formula.specs.declared.Refusal.TheVariants.{Memory, Loop}
-use Rattle.formula.specs.declared.Verdict.{Verdict}
-use Rattle.formula.specs.declared.Verdict.TheVariants.{Passed, Refused}
+use Rattle.formula.specs.Results.{Verdict, refused}
 use Rattle.formula.proofs.Refusals.{number-positive}
 use Rattle.formula.specs.Sheet.{row_count, lines_of, field_of, number_in, fields_of, field}
 use Rattle.formula.specs.SheetLaws.{line_fields, text_at}
@@ -65,32 +64,32 @@ module _ (s line m : List ℕ) where
     started-by v e b f = rw (le-ltb (length m) tagged_need long, e, f) refl
 
     -- the sheet's, with a for or without
-    pub tag-started-refused : (r : Refusal) (row : ℕ) → verdict_of s line ≡ Refused r row → tag_started s line m ≡ begun (refusal r row) m
+    pub tag-started-refused : (r : Refusal) (row : ℕ) → verdict_of s line ≡ refused r row → tag_started s line m ≡ begun (refusal r row) m
     unfolding tag_by_verdict
-    tag-started-refused r row e = started-by (Refused r row) e (has_for s) refl
+    tag-started-refused r row e = started-by (refused r row) e (has_for s) refl
 
     -- 19
-    pub tag-started-loop : verdict_of s line ≡ Passed → has_for s ≡ true → tag_started s line m ≡ begun (refusal Loop 0) m
+    pub tag-started-loop : verdict_of s line ≡ Ok tt → has_for s ≡ true → tag_started s line m ≡ begun (refusal Loop 0) m
     unfolding tag_by_verdict
-    tag-started-loop e h = started-by Passed e true h
+    tag-started-loop e h = started-by (Ok tt) e true h
 
     pub tag-started-with-for : has_for s ≡ true → tag_started s line m ≡ begun (loop_answer (verdict_of s line)) m
     tag-started-with-for h = go (verdict_of s line) refl
       where
         go : (v : Verdict) → verdict_of s line ≡ v → tag_started s line m ≡ begun (loop_answer v) m
-        go Passed e = tag-started-loop e h
-        go (Refused r row) e = tag-started-refused r row e
+        go (Ok _) e = tag-started-loop e h
+        go (Err why) e = tag-started-refused why.refusal why.row e
 
-    pub tag-started-accepted : verdict_of s line ≡ Passed → has_for s ≡ false
+    pub tag-started-accepted : verdict_of s line ≡ Ok tt → has_for s ≡ false
         → tag_started s line m ≡ begun (accepted (made_of (formula_of s))) (tag_started_memory (made_of (formula_of s)) (letters_of (formula_of s) line) m)
     unfolding tag_by_verdict
-    tag-started-accepted e h = started-by Passed e false h
+    tag-started-accepted e h = started-by (Ok tt) e false h
 
 -- ---- an accepted start
 
 pub record AcceptedTagStart (s line m : List ℕ) : Type 0 where
   pub long : tagged_need ≤ length m
-  pub passed : verdict_of s line ≡ Passed
+  pub passed : verdict_of s line ≡ Ok tt
   pub admissible : Admissible s
   pub kinded : Kinded s line
   pub loopless-rows : has_for s ≡ false
@@ -105,9 +104,9 @@ accepted-tag-start s line m e = go (ltb (length m) tagged_need) refl (verdict_of
 
     go : (a : Bool) → ltb (length m) tagged_need ≡ a → (v : Verdict) → verdict_of s line ≡ v → (f : Bool) → has_for s ≡ f → AcceptedTagStart s line m
     go true p v q f r = absurd (omega (arith, refuses _ (tag-started-short s line m (ltb-true (length m) tagged_need p))))
-    go false p (Refused x row) q f r = absurd (omega (arith, number-positive x, refuses _ (tag-started-refused s line m (ltb-false (length m) tagged_need p) x row q)))
-    go false p Passed q true r = absurd (omega (arith, refuses _ (tag-started-loop s line m (ltb-false (length m) tagged_need p) q r)))
-    go false p Passed q false r =
+    go false p (Err why) q f r = absurd (omega (arith, number-positive why.refusal, refuses _ (tag-started-refused s line m (ltb-false (length m) tagged_need p) why.refusal why.row q)))
+    go false p (Ok _) q true r = absurd (omega (arith, refuses _ (tag-started-loop s line m (ltb-false (length m) tagged_need p) q r)))
+    go false p (Ok _) q false r =
         let long = ltb-false (length m) tagged_need p in
         record {
           long = long;
@@ -146,8 +145,8 @@ module _ (s line m : List ℕ) (long : tagged_need ≤ length m) (loopless : has
   tag-started-as n = go (verdict_of s line) refl
     where
       go : (v : Verdict) → verdict_of s line ≡ v → tag_started s line m ≡ started s line 1 m
-      go (Refused r row) p = tag-started-refused s line m long r row p ∙ sym (one-read ∙ verdict-refused (verdict_of s line) (formula_of s) (letters_of (formula_of s) line) 1 m r row p)
-      go Passed p =
+      go (Err why) p = tag-started-refused s line m long why.refusal why.row p ∙ sym (one-read ∙ verdict-refused (verdict_of s line) (formula_of s) (letters_of (formula_of s) line) 1 m why.refusal why.row p)
+      go (Ok _) p =
           absurd (n (ap (λ (b : Begun). b.answer.refusal) (one-read ∙ verdict-passed (verdict_of s line) (formula_of s) (letters_of (formula_of s) line) 1 m p)))
 
   -- an acceptance too, with tags

@@ -10,11 +10,11 @@ ghost use Rattle.machine_planes.specs.Planes.{most_tags, plane_at, tagged_need};
 ghost use Rattle.machine_tags.specs.TagValid.{tag_mark};
 ghost use Rattle.machine_tag_start.specs.TagStart.{has_for, emptied_tags, loop_answer, tag_started};
 
-use formula::{Reading, Refusal};
+use formula::{Refusal, Refused};
 use machine_layout::CAPACITY_AT;
 use machine_start::{StartAnswer, empty_links, refused};
 use machine_tag_valid::{SLOT_BYTES, TAG_MARK, TAGGED_NEED, TAGS, TAGS_AT, plane_at};
-use sheet_fields::field::{field_in, number};
+use sheet_fields::field::field_in;
 use sheet_fields::layout::ROW_BYTES;
 use sheet_read::read::read;
 
@@ -25,13 +25,10 @@ const FOR: u32 = 8;
 fn has_for(sheet: &[u8]) -> bool
     ensures { result ≡ has_for sheet.now }
 {
-    let n = sheet.len() / ROW_BYTES;
-    let mut i = 0;
-    while i < n {
-        if number(field_in(sheet, ROW_BYTES * i)) == FOR {
+    for i in 0..sheet.len() / ROW_BYTES {
+        if field_in(sheet, ROW_BYTES * i).unwrap_or(0) == FOR {
             return true;
         }
-        i += 1;
     }
     false
 }
@@ -41,8 +38,8 @@ fn refuse_loop(sheet: &[u8], line: &[u8]) -> StartAnswer
     ensures { result ≡ loop_answer (verdict_of sheet.now line.now) }
 {
     match read(sheet, line) {
-        Reading::Accepted(_) => refused(Refusal::Loop, 0),
-        Reading::Rejected(r, row) => refused(r, row as u32),
+        Ok(_) => refused(Refusal::Loop, 0),
+        Err(Refused { refusal, row }) => refused(refusal, row as u32),
     }
 }
 
@@ -51,11 +48,9 @@ fn empty_tags(mem: &mut [u8], links: usize)
     requires { (tagged_need ≤ length mem.old) × (links ≤ most_links) }
     ensures { mem.new ≡ emptied_tags most_tags links mem.old }
 {
-    let mut t = 0;
-    while t < TAGS {
+    for t in 0..TAGS {
         empty_links(mem, plane_at(t), SLOT_BYTES, links);
         mem[TAGS_AT + t] = 0;
-        t += 1;
     }
 }
 

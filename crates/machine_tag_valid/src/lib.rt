@@ -4,33 +4,44 @@
 // their memory is looked at by the parts of machine_valid. Also where the planes and the tags' bytes
 // lie. Assumes that the memory is as long as this machine needs.
 ghost use Rattle.std.specs.Prelude.{◌≡◌, ◌&&◌, ℕ, ◌+◌, ◌≤◌, ◌<◌, length};
-ghost use Rattle.machine_layout.specs.Layout.{most_operators, most_links, most_inputs, most_results, records_at, links_at, result_links_at, inputs_of, results_of, links_of};
+ghost use Rattle.machine_layout.specs.Layout.{most_operators, most_links, most_inputs, most_results, records_at, links_at, least_size, result_links_at, inputs_of, results_of, links_of};
 ghost use Rattle.machine_valid.specs.Below.{all_below};
 ghost use Rattle.machine_valid.specs.Valid.{input_ok, letter_ok, result_ok};
 ghost use Rattle.machine_planes.specs.Planes.{most_tags, plane_at, untaken_under, tagged_need};
 ghost use Rattle.machine_tags.specs.TagValid.{tag_figures_ok, plain_kind, untaken_under_ok, plane_ok, tag_valid};
+
+pub use machine_layout::SLOT_BYTES;
+use machine_layout::{LINKS, LINKS_AT, Stretches};
 
 pub const TAGS: usize = 16;
 
 // What stands in the place of the first machine's capacity.
 pub const TAG_MARK: usize = 17;
 
-// The bytes of a link with one place, of a plane and of the whole memory, and where the tags' bytes
-// begin.
-pub const SLOT_BYTES: usize = 6;
+// The bytes of a plane, where the tags' bytes begin, and the bytes of the whole memory.
+pub const PLANE_BYTES: usize = LINKS * SLOT_BYTES;
 
-pub const PLANE_BYTES: usize = 18630;
+pub const TAGS_AT: usize = LINKS_AT + TAGS * PLANE_BYTES;
 
-pub const TAGS_AT: usize = 319840;
-
-pub const TAGGED_NEED: usize = 319856;
+pub const TAGGED_NEED: usize = TAGS_AT + TAGS;
 
 // Where the links of tag t begin.
 pub fn plane_at(t: usize) -> usize
     requires { t < most_tags }
     ensures { result ≡ plane_at t }
 {
-    machine_layout::LINKS_AT + t * PLANE_BYTES
+    LINKS_AT + t * PLANE_BYTES
+}
+
+// The links of tag t, each with one place.
+pub fn plane(t: usize) -> Stretches
+    requires { t < most_tags }
+    ensures { (result.base ≡ plane_at t) × (result.size ≡ least_size) }
+{
+    Stretches {
+        base: plane_at(t),
+        size: SLOT_BYTES,
+    }
 }
 
 // 1 where a set is pushed under tag t and its result not taken.
@@ -59,11 +70,8 @@ fn kinds_ok(mem: &[u8], n: usize) -> bool
     requires { (links_at ≤ length mem.now) × (n ≤ most_operators) }
     ensures { result ≡ all_below n (plain_kind mem.now) }
 {
-    let mut i = 0;
-    while i < n {
-        if mem[machine_layout::operator_at(i)] <= machine_layout::M {
-            i += 1;
-        } else {
+    for i in 0..n {
+        if mem[machine_layout::operator_at(i)] > machine_layout::M {
             return false;
         }
     }
@@ -74,11 +82,8 @@ fn tags_ok(mem: &[u8]) -> bool
     requires { tagged_need ≤ length mem.now }
     ensures { result ≡ all_below most_tags (untaken_under_ok mem.now) }
 {
-    let mut t = 0;
-    while t < TAGS {
-        if untaken_under(mem, t) <= 1 {
-            t += 1;
-        } else {
+    for t in 0..TAGS {
+        if untaken_under(mem, t) > 1 {
             return false;
         }
     }
@@ -90,11 +95,8 @@ fn planes_ok(mem: &[u8], k: usize) -> bool
     requires { (tagged_need ≤ length mem.now) × (k ≡ links_of mem.now) × (k ≤ most_links) }
     ensures { result ≡ all_below most_tags (plane_ok mem.now) }
 {
-    let mut t = 0;
-    while t < TAGS {
-        if machine_valid::links_ok(mem, plane_at(t), SLOT_BYTES, k) {
-            t += 1;
-        } else {
+    for t in 0..TAGS {
+        if !machine_valid::links_ok(mem, plane(t), k) {
             return false;
         }
     }

@@ -2,171 +2,126 @@
 // The firmware's calls with a record that tells firings, takes and refused pushes (document 02, Job 10:
 // "which the firmware lends and which each call updates in place"). The definitions are specs/Tallied;
 // each contract is the call's own equation on the answer and on every lent byte, and one on the record,
-// and asks nothing of the caller. A call's work stands here, in a function that takes the record by value
-// and gives it back; the firmware's entry points, which are lent the record, only read and write it.
+// and asks nothing of the caller. The firmware's entry points only hand on what they are lent.
 ghost use Rattle.std.specs.Prelude.{◌≡◌};
 ghost use Rattle.machine_calls.specs.Calls.{outcome, handed, pushed, fired, ran, taken};
 ghost use Rattle.machine_rounds.specs.Rounds.{outcome as roundsOutcome, ran_rounds};
 ghost use Rattle.machine_tray.specs.Tray.{trayed};
 ghost use Rattle.machine_start.specs.Start.{begun, started};
-ghost use Rattle.machine_tally.specs.Tallied.{capped as cappedSum, more_firings, one_take, one_refused, after_start, after_push, after_tray, after_fire, after_run, after_rounds, after_take};
+ghost use Rattle.machine_tally.specs.Tallied.{more_firings, one_take, one_refused, after_start, after_push, after_tray, after_fire, after_run, after_rounds, after_take};
 
 use machine_calls::Answer;
 use machine_rounds::RoundsAnswer;
 use machine_start::StartAnswer;
 
-// The record: no number passes MOST.
+// The record: no number passes the most that it can hold.
 #[repr(C)]
-#[derive(Clone, Copy)]
+#[derive(Clone, Copy, Default)]
 pub struct Tally {
     pub firings: u32,
     pub takes: u32,
     pub refused: u32,
 }
 
-// A call's answer with the record after it.
-#[derive(Clone, Copy)]
-pub struct Noted {
-    pub answer: Answer,
-    pub tally: Tally,
-}
-
-#[derive(Clone, Copy)]
-pub struct NotedRounds {
-    pub answer: RoundsAnswer,
-    pub tally: Tally,
-}
-
-#[derive(Clone, Copy)]
-pub struct NotedStart {
-    pub answer: StartAnswer,
-    pub tally: Tally,
-}
-
-// Where a number stops.
-const MOST: u32 = 4294967295;
-
-// The sum, or MOST where it is more.
-fn capped(a: u32, n: u64) -> u32
-    ensures { result ≡ cappedSum a n }
-{
-    let left = (MOST - a) as u64;
-    if left < n {
-        return MOST;
+impl Tally {
+    #[tactic(auto, unfolding(crate::specs::Tallied::more_firings, crate::specs::Tallied::capped))]
+    fn add_firings(&mut self, n: u64)
+        ensures { self.new ≡ more_firings self.old n }
+    {
+        let n = u32::try_from(n).unwrap_or(u32::MAX);
+        self.firings = self.firings.saturating_add(n);
     }
-    a + n as u32
-}
 
-fn more_firings(t: Tally, n: u64) -> Tally
-    ensures { result ≡ more_firings t n }
-{
-    Tally {
-        firings: capped(t.firings, n),
-        takes: t.takes,
-        refused: t.refused,
+    #[tactic(auto, unfolding(crate::specs::Tallied::one_take, crate::specs::Tallied::capped))]
+    fn add_take(&mut self)
+        ensures { self.new ≡ one_take self.old }
+    {
+        self.takes = self.takes.saturating_add(1);
+    }
+
+    #[tactic(auto, unfolding(crate::specs::Tallied::one_refused, crate::specs::Tallied::capped))]
+    fn add_refused(&mut self)
+        ensures { self.new ≡ one_refused self.old }
+    {
+        self.refused = self.refused.saturating_add(1);
     }
 }
 
-fn one_take(t: Tally) -> Tally
-    ensures { result ≡ one_take t }
-{
-    Tally {
-        firings: t.firings,
-        takes: capped(t.takes, 1),
-        refused: t.refused,
-    }
-}
-
-fn one_refused(t: Tally) -> Tally
-    ensures { result ≡ one_refused t }
-{
-    Tally {
-        firings: t.firings,
-        takes: t.takes,
-        refused: capped(t.refused, 1),
-    }
-}
-
+#[tactic(auto, unfolding(crate::specs::Tallied::after_start))]
 pub fn start_tallied(
     sheet: &[u8],
     kinds: &[u8],
     capacity: u32,
     mem: &mut [u8],
-    t: Tally,
-) -> NotedStart
-    ensures { (begun result.answer mem.new ≡ started sheet.now kinds.now capacity mem.old) × (result.tally ≡ after_start t result.answer) }
+    tally: &mut Tally,
+) -> StartAnswer
+    ensures { (begun result mem.new ≡ started sheet.now kinds.now capacity mem.old) × (tally.new ≡ after_start tally.old result) }
 {
     let answer = machine_start::start(sheet, kinds, capacity, mem);
-    let zeros = Tally {
-        firings: 0,
-        takes: 0,
-        refused: 0,
-    };
     if answer.refusal == 0 {
-        return NotedStart {
-            answer,
-            tally: zeros,
-        };
+        *tally = Tally::default();
     }
-    NotedStart { answer, tally: t }
+    answer
 }
 
-pub fn push_tallied(mem: &mut [u8], set: &[u8], t: Tally) -> Noted
-    ensures { (outcome result.answer mem.new ≡ pushed mem.old set.now) × (result.tally ≡ after_push t result.answer) }
+#[tactic(auto, unfolding(crate::specs::Tallied::after_push))]
+pub fn push_tallied(mem: &mut [u8], set: &[u8], tally: &mut Tally) -> Answer
+    ensures { (outcome result mem.new ≡ pushed mem.old set.now) × (tally.new ≡ after_push tally.old result) }
 {
     let answer = machine_calls::push(mem, set);
-    if answer.refusal == 0 {
-        return Noted { answer, tally: t };
+    if answer.refusal != 0 {
+        tally.add_refused();
     }
-    let tally = one_refused(t);
-    Noted { answer, tally }
+    answer
 }
 
-pub fn push_tray_tallied(mem: &mut [u8], sets: &[u8], number: u32, t: Tally) -> Noted
-    ensures { (outcome result.answer mem.new ≡ trayed mem.old sets.now number) × (result.tally ≡ after_tray t result.answer) }
+#[tactic(auto, unfolding(crate::specs::Tallied::after_tray))]
+pub fn push_tray_tallied(mem: &mut [u8], sets: &[u8], number: u32, tally: &mut Tally) -> Answer
+    ensures { (outcome result mem.new ≡ trayed mem.old sets.now number) × (tally.new ≡ after_tray tally.old result) }
 {
     let answer = machine_tray::push_tray(mem, sets, number);
-    if answer.refusal == 0 {
-        return Noted { answer, tally: t };
+    if answer.refusal != 0 {
+        tally.add_refused();
     }
-    let tally = one_refused(t);
-    Noted { answer, tally }
+    answer
 }
 
-pub fn fire_tallied(mem: &mut [u8], operator: u32, t: Tally) -> Noted
-    ensures { (outcome result.answer mem.new ≡ fired mem.old operator) × (result.tally ≡ after_fire t result.answer) }
+#[tactic(auto, unfolding(crate::specs::Tallied::after_fire))]
+pub fn fire_tallied(mem: &mut [u8], operator: u32, tally: &mut Tally) -> Answer
+    ensures { (outcome result mem.new ≡ fired mem.old operator) × (tally.new ≡ after_fire tally.old result) }
 {
     let answer = machine_calls::fire(mem, operator);
     if answer.refusal == 0 {
-        let tally = more_firings(t, 1);
-        return Noted { answer, tally };
+        tally.add_firings(1);
     }
-    Noted { answer, tally: t }
+    answer
 }
 
-pub fn run_tallied(mem: &mut [u8], firings: u32, t: Tally) -> Noted
-    ensures { (outcome result.answer mem.new ≡ ran mem.old firings) × (result.tally ≡ after_run t result.answer) }
+#[tactic(auto, unfolding(crate::specs::Tallied::after_run))]
+pub fn run_tallied(mem: &mut [u8], firings: u32, tally: &mut Tally) -> Answer
+    ensures { (outcome result mem.new ≡ ran mem.old firings) × (tally.new ≡ after_run tally.old result) }
 {
     let answer = machine_calls::run(mem, firings);
-    let tally = more_firings(t, answer.count as u64);
-    Noted { answer, tally }
+    tally.add_firings(u64::from(answer.count));
+    answer
 }
 
-pub fn run_rounds_tallied(mem: &mut [u8], lent: u32, t: Tally) -> NotedRounds
-    ensures { (roundsOutcome result.answer mem.new ≡ ran_rounds mem.old lent) × (result.tally ≡ after_rounds t result.answer) }
+#[tactic(auto, unfolding(crate::specs::Tallied::after_rounds))]
+pub fn run_rounds_tallied(mem: &mut [u8], lent: u32, tally: &mut Tally) -> RoundsAnswer
+    ensures { (roundsOutcome result mem.new ≡ ran_rounds mem.old lent) × (tally.new ≡ after_rounds tally.old result) }
 {
     let answer = machine_rounds::run_rounds(mem, lent);
-    let tally = more_firings(t, answer.firings);
-    NotedRounds { answer, tally }
+    tally.add_firings(answer.firings);
+    answer
 }
 
-pub fn take_tallied(mem: &mut [u8], out: &mut [u8], t: Tally) -> Noted
-    ensures { (handed result.answer mem.new out.new ≡ taken mem.old out.old) × (result.tally ≡ after_take t result.answer) }
+#[tactic(auto, unfolding(crate::specs::Tallied::after_take))]
+pub fn take_tallied(mem: &mut [u8], out: &mut [u8], tally: &mut Tally) -> Answer
+    ensures { (handed result mem.new out.new ≡ taken mem.old out.old) × (tally.new ≡ after_take tally.old result) }
 {
     let answer = machine_calls::take(mem, out);
     if answer.refusal == 0 {
-        let tally = one_take(t);
-        return Noted { answer, tally };
+        tally.add_take();
     }
-    Noted { answer, tally: t }
+    answer
 }

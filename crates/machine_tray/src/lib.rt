@@ -6,10 +6,8 @@ ghost use Rattle.machine_calls.specs.Calls.{outcome, standing};
 ghost use Rattle.machine_tray.specs.Tray.{set_bytes, trayed};
 ghost use Rattle.machine_tray.specs.TrayLaws.{Ends};
 
-use machine_calls::Answer;
-
-// The bytes of a value.
-const VALUE_BYTES: usize = 5;
+use machine_calls::{Answer, refused, reply};
+use machine_layout::TOKEN_BYTES;
 
 // The bytes of a set. Memory too short to tell the inputs counts as having none: no push on it is
 // accepted.
@@ -19,7 +17,7 @@ fn set_bytes(mem: &[u8]) -> usize
     if mem.len() < machine_layout::RECORDS_AT {
         return 0;
     }
-    VALUE_BYTES * machine_layout::inputs(mem)
+    TOKEN_BYTES * machine_layout::inputs(mem)
 }
 
 // Where a set of `size` bytes at `at` ends, or the lent bytes where they end before.
@@ -27,10 +25,7 @@ fn end_of(at: usize, size: usize, lent: usize) -> usize
     requires { at ≤ lent }
     ensures { Ends size lent at result }
 {
-    if lent - at < size {
-        return lent;
-    }
-    at + size
+    at + usize::min(size, lent - at)
 }
 
 // Pushes sets lying behind each other until one is refused, and tells how many went in.
@@ -38,25 +33,20 @@ pub fn push_tray(mem: &mut [u8], sets: &[u8], number: u32) -> Answer
     ensures { outcome result mem.new ≡ trayed mem.old sets.now number }
 {
     if number == 0 {
-        return Answer {
-            refusal: machine_calls::standing_of(mem),
-            count: 0,
+        return match machine_calls::standing(mem) {
+            Ok(()) => reply(0, 0),
+            Err(r) => refused(r),
         };
     }
     let size = set_bytes(mem);
     let mut at = 0;
-    let mut count = 0;
-    while count < number {
+    for count in 0..number {
         let end = end_of(at, size, sets.len());
         let answer = machine_calls::push(mem, &sets[at..end]);
         if answer.refusal != 0 {
-            return Answer {
-                refusal: answer.refusal,
-                count,
-            };
+            return reply(answer.refusal, count);
         }
         at = end;
-        count += 1;
     }
-    Answer { refusal: 0, count }
+    reply(0, number)
 }

@@ -1,6 +1,6 @@
 -- What the header's test says, as inequalities. Assumes nothing.
-use Rattle.std.specs.Prelude.{ℕ, ◌+◌, ◌*◌, ◌≤◌, ◌<◌, ◌≡◌, Bool, true, ◌&&◌, ◌||◌, List, leb, ltb, eqb, length, get_or}
-use Rattle.std.proofs.Common.{sym, ap, ◌∙◌, leb-true, le-leb}
+use Rattle.std.specs.Prelude.{ℕ, ◌≤◌, ◌≡◌, Bool, true, ◌&&◌, ◌||◌, List, leb, ltb, eqb, length}
+use Rattle.std.proofs.Common.{ap, leb-true, le-leb}
 use Rattle.machine_layout.specs.Layout.{most_operators, most_links, most_capacity, most_inputs, most_results, most_untaken, capacity_byte, operators_of, links_of, inputs_of, results_of, untaken_of, no_link, trigger_of, capacity_in, capacity_of, need, size_of}
 use Rattle.machine_valid.specs.Below.{and_left, and_right}
 use Rattle.machine_valid.specs.Valid.{counts_ok, figures_ok, valid}
@@ -71,6 +71,9 @@ valid-figures m e = figures-say m (and_left (figures_ok m) _ e)
 pub capacity-is : (m : List ℕ) → Figures m → capacity_of m ≡ capacity_byte m
 unfolding capacity_in
 capacity-is m h = simp (le-leb 1 (capacity_byte m) h.capacity1, le-leb (capacity_byte m) 16 h.capacity16)
+
+pub size_is : (m : List ℕ) → figures_ok m ≡ true → size_of (capacity_of m) ≡ size_of (capacity_byte m)
+size_is m h = ap size_of (capacity-is m (figures-say m h))
 
 pub enough : (m : List ℕ) → Figures m → need (size_of (capacity_of m)) ≤ length m → need (size_of (capacity_byte m)) ≤ length m
 enough m f h = rw (capacity-is m f) at h

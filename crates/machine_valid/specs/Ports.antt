@@ -3,8 +3,8 @@
 use Prim.Native.Nat.{ℕ, zero, suc, ◌+◌, ◌*◌, ◌≤◌, ◌<◌}
 use Rattle.std.specs.Prelude.{◌≡◌, Bool, ◌&&◌, ◌||◌, not, List, [], ◌∷◌, ◌≢◌, ◌⊎◌, ltb, eqb}
 use Rattle.std.proofs.Math.Path.{refl}
-use Rattle.std.proofs.Common.{sym, ap, ◌∙◌, true≢false, inl, inr}
-use Rattle.std.proofs.Math.Bool.{true, false}
+use Rattle.std.proofs.Common.{sym, ap, ◌∙◌, inl, inr}
+use Rattle.std.proofs.Math.Bool.{true, false, or-true, or-false, and-false, and-true, and_comm, and_assoc}
 use native.Mathlib.Omega.{arith}
 use borrow.Author.Tests.{eq-eqb, ne_eqb, eqb-true, eqb-false, ltb-true, le-leb, lt-leb}
 use Rattle.value.specs.Operators.{pick}
@@ -13,33 +13,6 @@ use Rattle.machine_layout.specs.Layout.{ports_at, links_of, no_link, name_at, op
 use Rattle.machine_layout.specs.Kinds.{inputs_of_kind, outputs_of_kind, has_port, may_lack}
 use Rattle.machine_valid.specs.Below.{all_below, and_left, and_right, below_all}
 use Rattle.machine_valid.specs.Valid.{unlike, unlike_at, fresh_at, port_ok, named_ok, register_ok, kind_ok, operator_ok}
-
--- ---- truths
-
-or-true : (b : Bool) → b || true ≡ true
-or-true true = refl
-or-true false = refl
-
-or-false : (b : Bool) → b || false ≡ b
-or-false true = refl
-or-false false = refl
-
-and-false : (b : Bool) → b && false ≡ false
-and-false true = refl
-and-false false = refl
-
-pub and-true : (b : Bool) → b && true ≡ b
-and-true true = refl
-and-true false = refl
-
-and-swap : (a b : Bool) → a && b ≡ b && a
-and-swap true b = sym (and-true b)
-and-swap false true = refl
-and-swap false false = refl
-
-and_assoc : (a b c : Bool) → a && (b && c) ≡ (a && b) && c
-and_assoc true b c = refl
-and_assoc false b c = refl
 
 -- ---- names in a list
 
@@ -61,12 +34,6 @@ nones (x ∷ xs) = eqb x no_link && nones xs
 abbrev pub shaped : ℕ → List ℕ → List ℕ → Bool
 shaped links xs ys = apart links xs && nones ys
 
-pub shaped-linked : (links : ℕ) (xs ys : List ℕ) → nones ys ≡ true → apart links xs ≡ shaped links xs ys
-shaped-linked links xs ys h = rw h (sym (and-true (apart links xs)))
-
-pub shaped-not : (links : ℕ) (xs ys : List ℕ) → nones ys ≡ false → false ≡ shaped links xs ys
-shaped-not links xs ys h = rw h (sym (and-false (apart links xs)))
-
 -- two names are none where their four bytes are all 255
 pub two-names : (x y : ℕ) → x < 65536 → y < 65536 → eqb (x + 65536 * y) 4294967295 ≡ nones (y ∷ x ∷ [])
 unfolding nones
@@ -76,27 +43,6 @@ two-names x y i j = go (eqb y 65535) refl (eqb x 65535) refl
     go true p true q = eq-eqb (x + 65536 * y) 4294967295 (omega (arith, eqb-true y 65535 p, eqb-true x 65535 q))
     go true p false q = ne_eqb (x + 65536 * y) 4294967295 (λ e. eqb-false x 65535 q (omega (arith, eqb-true y 65535 p)))
     go false p b q = ne_eqb (x + 65536 * y) 4294967295 (λ e. eqb-false y 65535 p (omega arith))
-
-pub two-not : (x y : ℕ) (zs : List ℕ) → nones (x ∷ y ∷ []) ≡ false → nones (x ∷ y ∷ zs) ≡ false
-unfolding nones
-two-not x y zs h = go (eqb x 65535) (eqb y 65535) h
-  where
-    go : (a b : Bool) → a && (b && true) ≡ false → a && (b && nones zs) ≡ false
-    go false b h = refl
-    go true false h = refl
-    go true true h = absurd (true≢false h)
-
-pub one-not : (x : ℕ) (ys : List ℕ) → x ≢ no_link → nones (x ∷ ys) ≡ false
-unfolding nones
-one-not x ys n = rw (ne_eqb x 65535 n) refl
-
-pub one_none : (x : ℕ) (ys : List ℕ) → x ≡ no_link → nones (x ∷ ys) ≡ nones ys
-unfolding nones
-one_none x ys e = rw (eq-eqb x 65535 e) refl
-
-pub two_none : (x y : ℕ) (zs : List ℕ) → nones (x ∷ y ∷ []) ≡ true → nones (x ∷ y ∷ zs) ≡ nones zs
-unfolding nones
-two_none x y zs h = rw (and_left (eqb x 65535) (eqb y 65535 && true) h, and_left (eqb y 65535) true (and_right (eqb x 65535) (eqb y 65535 && true) h)) refl
 
 -- ---- the names of an operator, by whether their ports have a link
 
@@ -137,7 +83,7 @@ bare_step true false false fresh h = refl
 link-step : (a b t fresh clear : Bool) → (b ≡ true → t ≡ true → fresh ≡ clear) → (a && b) && (t && fresh) ≡ (t && (clear && a)) && b
 link-step a b false fresh clear h = and-false (a && b)
 link-step a false true fresh clear h = ap (λ (c : Bool). c && fresh) (and-false a) ∙ sym (and-false (clear && a))
-link-step a true true fresh clear h = rw (h refl refl, and-true a, and-true (clear && a)) (and-swap a clear)
+link-step a true true fresh clear h = rw (h refl refl, and-true a, and-true (clear && a)) (and_comm a clear)
 
 -- a link differs from one by its number alone, and from no link always
 link-unlike : (x y : ℕ) → x < no_link → unlike x y ≡ not (eqb x y)
@@ -173,7 +119,7 @@ module _ (m : List ℕ) (at kind : ℕ) where
           rw (I r, none-unlike (name_at m at p) (name_at m at n) l e) (and-true (away (name_at m at p) (linked kind (name_at m at) n)))
       go false h I =
           rw (I h, link-unlike (name_at m at p) (name_at m at n) l)
-          (and-swap (away (name_at m at p) (linked kind (name_at m at) n)) (not (eqb (name_at m at p) (name_at m at n))))
+          (and_comm (away (name_at m at p) (linked kind (name_at m at) n)) (not (eqb (name_at m at p) (name_at m at n))))
 
   -- the test of the first n names
   named-apart : links_of m ≤ no_link → (n : ℕ)
@@ -206,7 +152,7 @@ pub operator-ported : (m : List ℕ) (i : ℕ) → links_of m ≤ no_link
 unfolding operator_ok well_ported
 operator-ported m i w =
     rw (named-apart m (operator_at i + 2) (kind_byte m i) w 6)
-    (and_assoc (kind_ok (kind_byte m i)) _ (register_ok (kind_byte m i) (word_at m (register_at i))))
+    (sym (and_assoc (kind_ok (kind_byte m i)) _ (register_ok (kind_byte m i) (word_at m (register_at i)))))
 
 -- ---- the shapes: a kind's numbers of inputs and outputs, where it can lack none of them
 

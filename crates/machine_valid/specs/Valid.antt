@@ -1,7 +1,7 @@
 -- Refusal 31 of document 01: "a stored figure or token outside its range, or a link named twice by one operator, the inputs or the results".
 -- A memory is valid where neither is so. Only the part that the graph uses is looked at: the operators, links, inputs and results that the
 -- header counts. Two operators may share a link. Assumes nothing.
-use Rattle.std.specs.Prelude.{ℕ, ◌+◌, ◌*◌, Bool, true, false, ◌&&◌, ◌||◌, not, List, length, get_or, leb, ltb, eqb}
+use Rattle.std.specs.Prelude.{ℕ, ◌+◌, ◌*◌, Bool, ◌&&◌, ◌||◌, not, List, length, get_or, leb, ltb, eqb}
 use Rattle.value.specs.Operators.{pick}
 use Rattle.value.specs.Bytes.{is_some, value_of, word_at}
 use Rattle.value.specs.Constants.{in_constant_range}

@@ -9,29 +9,20 @@ ghost use Rattle.machine_valid.specs.Below.{all_below};
 ghost use Rattle.machine_valid.specs.Valid.{unlike, fresh_at, result_ok, input_ok, letter_ok, register_ok, operator_ok, stretch_ok, link_ok_from, counts_ok, figures_ok, valid};
 ghost use Rattle.machine_valid.specs.Ports.{apart, nones, shaped, well_ported};
 
-// The ports of an operator in their row: three inputs, three outputs.
-const IN1: usize = 0;
-
-const IN2: usize = 1;
-
-const IN3: usize = 2;
-
-const OUT1: usize = 3;
-
-const OUT2: usize = 4;
-
-const OUT3: usize = 5;
+use machine_firing::NOWHERE;
+use machine_layout::{
+    FIRST_INPUT, FIRST_OUTPUT, SECOND_INPUT, SECOND_OUTPUT, Stretches, THIRD_INPUT, THIRD_OUTPUT,
+    name_at,
+};
 
 // The four bytes of two names that are none.
 const TWO_NONES: usize = 4294967295;
 
+#[tactic(auto, unfolding(crate::specs::Valid::unlike))]
 fn is_unlike(x: usize, y: usize) -> bool
     ensures { result ≡ unlike x y }
 {
-    if x == y {
-        return x == machine_firing::NOWHERE;
-    }
-    true
+    x != y || x == NOWHERE
 }
 
 // Whether name p of a row is like none before it.
@@ -39,73 +30,45 @@ fn is_fresh(mem: &[u8], at: usize, p: usize) -> bool
     requires { (at + 2 * p + 2 ≤ length mem.now) × (at < 65000) × (p < 64) }
     ensures { result ≡ fresh_at mem.now at p }
 {
-    let x = machine_layout::name_at(mem, at, p);
-    let mut q = 0;
-    while q < p {
-        if is_unlike(x, machine_layout::name_at(mem, at, q)) {
-            q += 1;
-        } else {
-            return false;
-        }
-    }
-    true
+    let x = name_at(mem, at, p);
+    (0..p).all(|q| is_unlike(x, name_at(mem, at, q)))
 }
 
+#[tactic(auto, unfolding(crate::specs::Valid::result_ok))]
 fn result_ok(mem: &[u8], p: usize) -> bool
     requires { (records_at ≤ length mem.now) × (p < most_results) }
     ensures { result ≡ result_ok mem.now result_links_at p }
 {
-    if machine_layout::result_link(mem, p) < machine_layout::links(mem) {
-        return is_fresh(mem, machine_layout::RESULT_LINKS_AT, p);
-    }
-    false
+    machine_layout::result_link(mem, p) < machine_layout::links(mem)
+        && is_fresh(mem, machine_layout::RESULT_LINKS_AT, p)
 }
 
 pub fn results_ok(mem: &[u8], k: usize) -> bool
     requires { (records_at ≤ length mem.now) × (k ≤ most_results) }
     ensures { result ≡ all_below k (result_ok mem.now result_links_at) }
 {
-    let mut p = 0;
-    while p < k {
-        if result_ok(mem, p) {
-            p += 1;
-        } else {
-            return false;
-        }
-    }
-    true
+    (0..k).all(|p| result_ok(mem, p))
 }
 
 // Name 0 is the trigger's, which may be none.
+#[tactic(auto, unfolding(crate::specs::Valid::input_ok))]
 fn input_ok(mem: &[u8], p: usize) -> bool
     requires { (records_at ≤ length mem.now) × (p ≤ most_inputs) }
     ensures { result ≡ input_ok mem.now p }
 {
-    if machine_layout::name_at(mem, machine_layout::TRIGGER_AT, p) < machine_layout::links(mem) {
-        return is_fresh(mem, machine_layout::TRIGGER_AT, p);
-    }
-    if p == 0 {
-        return is_fresh(mem, machine_layout::TRIGGER_AT, p);
-    }
-    false
+    (p == 0 || name_at(mem, machine_layout::TRIGGER_AT, p) < machine_layout::links(mem))
+        && is_fresh(mem, machine_layout::TRIGGER_AT, p)
 }
 
 pub fn inputs_ok(mem: &[u8], k: usize) -> bool
     requires { (records_at ≤ length mem.now) × (k ≤ most_inputs + 1) }
     ensures { result ≡ all_below k (input_ok mem.now) }
 {
-    let mut p = 0;
-    while p < k {
-        if input_ok(mem, p) {
-            p += 1;
-        } else {
-            return false;
-        }
-    }
-    true
+    (0..k).all(|p| input_ok(mem, p))
 }
 
 // Whether the stored kind of input j is the letter of one.
+#[tactic(auto, unfolding(crate::specs::Valid::letter_ok))]
 fn letter_ok(mem: &[u8], j: usize) -> bool
     requires { (records_at ≤ length mem.now) × (j < most_inputs) }
     ensures { result ≡ letter_ok mem.now j }
@@ -117,15 +80,7 @@ pub fn letters_ok(mem: &[u8], k: usize) -> bool
     requires { (records_at ≤ length mem.now) × (k ≤ most_inputs) }
     ensures { result ≡ all_below k (letter_ok mem.now) }
 {
-    let mut j = 0;
-    while j < k {
-        if letter_ok(mem, j) {
-            j += 1;
-        } else {
-            return false;
-        }
-    }
-    true
+    (0..k).all(|j| letter_ok(mem, j))
 }
 
 // Whether names p and p + 1 of a row are none, as one figure of four bytes.
@@ -133,169 +88,90 @@ fn both_none(mem: &[u8], at: usize, p: usize) -> bool
     requires { (at + 2 * p + 4 ≤ length mem.now) × (at < 65000) × (p < 6) }
     ensures { result ≡ nones (name_at mem.now at (p + 1) ∷ name_at mem.now at p ∷ []) }
 {
-    let low = machine_layout::name_at(mem, at, p);
-    let high = machine_layout::name_at(mem, at, p + 1);
+    let low = name_at(mem, at, p);
+    let high = name_at(mem, at, p + 1);
     low + 65536 * high == TWO_NONES
 }
 
-// Whether names are those of links, no two the same.
-fn are_two(links: usize, x: usize, y: usize) -> bool
-    ensures { result ≡ apart links (y ∷ x ∷ []) }
+// Whether names are those of links, no two the same. How many is a parameter, so that no loop is left when it is compiled.
+fn are_apart<const N: usize>(links: usize, names: &[usize; N]) -> bool
+    ensures { result ≡ apart links names.now }
 {
-    if links <= y {
-        return false;
+    let names = &names[..];
+    for (i, x) in names.iter().enumerate() {
+        if links <= *x || names[i + 1..].iter().any(|y| x == y) {
+            return false;
+        }
     }
-    if y == x {
-        return false;
-    }
-    x < links
+    true
 }
 
-fn are_three(links: usize, x: usize, y: usize, z: usize) -> bool
-    ensures { result ≡ apart links (z ∷ y ∷ x ∷ []) }
-{
-    if links <= z {
-        return false;
-    }
-    if z == y {
-        return false;
-    }
-    if z == x {
-        return false;
-    }
-    are_two(links, x, y)
-}
-
-fn are_four(links: usize, w: usize, x: usize, y: usize, z: usize) -> bool
-    ensures { result ≡ apart links (z ∷ y ∷ x ∷ w ∷ []) }
-{
-    if links <= z {
-        return false;
-    }
-    if z == y {
-        return false;
-    }
-    if z == x {
-        return false;
-    }
-    if z == w {
-        return false;
-    }
-    are_three(links, w, x, y)
-}
-
-fn are_five(links: usize, v: usize, w: usize, x: usize, y: usize, z: usize) -> bool
-    ensures { result ≡ apart links (z ∷ y ∷ x ∷ w ∷ v ∷ []) }
-{
-    if links <= z {
-        return false;
-    }
-    if z == y {
-        return false;
-    }
-    if z == x {
-        return false;
-    }
-    if z == w {
-        return false;
-    }
-    if z == v {
-        return false;
-    }
-    are_four(links, v, w, x, y)
-}
-
-fn are_six(links: usize, u: usize, v: usize, w: usize, x: usize, y: usize, z: usize) -> bool
-    ensures { result ≡ apart links (z ∷ y ∷ x ∷ w ∷ v ∷ u ∷ []) }
-{
-    if links <= z {
-        return false;
-    }
-    if z == y {
-        return false;
-    }
-    if z == x {
-        return false;
-    }
-    if z == w {
-        return false;
-    }
-    if z == v {
-        return false;
-    }
-    if z == u {
-        return false;
-    }
-    are_five(links, u, v, w, x, y)
-}
-
+// A function for each shape of ports: one over lists of ports with and without a link was tried, and is slower by a quarter or more.
+#[tactic(auto, unfolding(crate::specs::Ports::nones))]
 fn two_to_one(mem: &[u8], links: usize, at: usize) -> bool
     requires { (at + 12 ≤ length mem.now) × (at < 65000) }
     ensures { result ≡ shaped links (name_at mem.now at 3 ∷ name_at mem.now at 1 ∷ name_at mem.now at 0 ∷ []) (name_at mem.now at 5 ∷ name_at mem.now at 4 ∷ name_at mem.now at 2 ∷ []) }
 {
-    if !both_none(mem, at, OUT2) {
-        return false;
-    }
-    if machine_layout::name_at(mem, at, IN3) != machine_firing::NOWHERE {
-        return false;
-    }
-    are_three(
-        links,
-        machine_layout::name_at(mem, at, IN1),
-        machine_layout::name_at(mem, at, IN2),
-        machine_layout::name_at(mem, at, OUT1),
-    )
+    both_none(mem, at, SECOND_OUTPUT)
+        && name_at(mem, at, THIRD_INPUT) == NOWHERE
+        && are_apart(
+            links,
+            &[
+                name_at(mem, at, FIRST_OUTPUT),
+                name_at(mem, at, SECOND_INPUT),
+                name_at(mem, at, FIRST_INPUT),
+            ],
+        )
 }
 
+#[tactic(auto, unfolding(crate::specs::Ports::nones))]
 fn one_to_one(mem: &[u8], links: usize, at: usize) -> bool
     requires { (at + 12 ≤ length mem.now) × (at < 65000) }
     ensures { result ≡ shaped links (name_at mem.now at 3 ∷ name_at mem.now at 0 ∷ []) (name_at mem.now at 5 ∷ name_at mem.now at 4 ∷ name_at mem.now at 2 ∷ name_at mem.now at 1 ∷ []) }
 {
-    if !both_none(mem, at, OUT2) {
-        return false;
-    }
-    if !both_none(mem, at, IN2) {
-        return false;
-    }
-    are_two(
-        links,
-        machine_layout::name_at(mem, at, IN1),
-        machine_layout::name_at(mem, at, OUT1),
-    )
+    both_none(mem, at, SECOND_OUTPUT)
+        && both_none(mem, at, SECOND_INPUT)
+        && are_apart(
+            links,
+            &[
+                name_at(mem, at, FIRST_OUTPUT),
+                name_at(mem, at, FIRST_INPUT),
+            ],
+        )
 }
 
+#[tactic(auto, unfolding(crate::specs::Ports::nones))]
 fn one_to_two(mem: &[u8], links: usize, at: usize) -> bool
     requires { (at + 12 ≤ length mem.now) × (at < 65000) }
     ensures { result ≡ shaped links (name_at mem.now at 4 ∷ name_at mem.now at 3 ∷ name_at mem.now at 0 ∷ []) (name_at mem.now at 5 ∷ name_at mem.now at 2 ∷ name_at mem.now at 1 ∷ []) }
 {
-    if machine_layout::name_at(mem, at, OUT3) != machine_firing::NOWHERE {
-        return false;
-    }
-    if !both_none(mem, at, IN2) {
-        return false;
-    }
-    are_three(
-        links,
-        machine_layout::name_at(mem, at, IN1),
-        machine_layout::name_at(mem, at, OUT1),
-        machine_layout::name_at(mem, at, OUT2),
-    )
+    name_at(mem, at, THIRD_OUTPUT) == NOWHERE
+        && both_none(mem, at, SECOND_INPUT)
+        && are_apart(
+            links,
+            &[
+                name_at(mem, at, SECOND_OUTPUT),
+                name_at(mem, at, FIRST_OUTPUT),
+                name_at(mem, at, FIRST_INPUT),
+            ],
+        )
 }
 
+#[tactic(auto, unfolding(crate::specs::Ports::nones))]
 fn three_to_one(mem: &[u8], links: usize, at: usize) -> bool
     requires { (at + 12 ≤ length mem.now) × (at < 65000) }
     ensures { result ≡ shaped links (name_at mem.now at 3 ∷ name_at mem.now at 2 ∷ name_at mem.now at 1 ∷ name_at mem.now at 0 ∷ []) (name_at mem.now at 5 ∷ name_at mem.now at 4 ∷ []) }
 {
-    if !both_none(mem, at, OUT2) {
-        return false;
-    }
-    are_four(
-        links,
-        machine_layout::name_at(mem, at, IN1),
-        machine_layout::name_at(mem, at, IN2),
-        machine_layout::name_at(mem, at, IN3),
-        machine_layout::name_at(mem, at, OUT1),
-    )
+    both_none(mem, at, SECOND_OUTPUT)
+        && are_apart(
+            links,
+            &[
+                name_at(mem, at, FIRST_OUTPUT),
+                name_at(mem, at, THIRD_INPUT),
+                name_at(mem, at, SECOND_INPUT),
+                name_at(mem, at, FIRST_INPUT),
+            ],
+        )
 }
 
 // IC. "An output with no user": the second.
@@ -303,16 +179,17 @@ fn three_to_three(mem: &[u8], links: usize, at: usize) -> bool
     requires { (at + 12 ≤ length mem.now) × (at < 65000) }
     ensures { result ≡ well_ported 18 links (name_at mem.now at) }
 {
-    let in1 = machine_layout::name_at(mem, at, IN1);
-    let in2 = machine_layout::name_at(mem, at, IN2);
-    let in3 = machine_layout::name_at(mem, at, IN3);
-    let out1 = machine_layout::name_at(mem, at, OUT1);
-    let out2 = machine_layout::name_at(mem, at, OUT2);
-    let out3 = machine_layout::name_at(mem, at, OUT3);
-    if out2 == machine_firing::NOWHERE {
-        return are_five(links, in1, in2, in3, out1, out3);
+    let in1 = name_at(mem, at, FIRST_INPUT);
+    let in2 = name_at(mem, at, SECOND_INPUT);
+    let in3 = name_at(mem, at, THIRD_INPUT);
+    let out1 = name_at(mem, at, FIRST_OUTPUT);
+    let out2 = name_at(mem, at, SECOND_OUTPUT);
+    let out3 = name_at(mem, at, THIRD_OUTPUT);
+    if out2 == NOWHERE {
+        are_apart(links, &[out3, out1, in3, in2, in1])
+    } else {
+        are_apart(links, &[out3, out2, out1, in3, in2, in1])
     }
-    are_six(links, in1, in2, in3, out1, out2, out3)
 }
 
 // Whether a kind's ports name links, no two the same, and the others none; there are no kinds but these.
@@ -331,19 +208,15 @@ fn ports_ok(kind: u8, mem: &[u8], links: usize, at: usize) -> bool
     }
 }
 
+#[tactic(auto, unfolding(crate::specs::Valid::register_ok))]
 fn register_ok(kind: u8, word: u64) -> bool
     ensures { result ≡ register_ok kind word }
 {
     if kind == machine_layout::CONSTANT {
-        return value::bytes::in_constant_range(word);
+        value::bytes::in_constant_range(word)
+    } else {
+        word == 0 || (machine_layout::FM <= kind && value::bytes::is_value(word))
     }
-    if word == 0 {
-        return true;
-    }
-    if machine_layout::FM <= kind {
-        return value::bytes::is_value(word);
-    }
-    false
 }
 
 fn operator_ok(mem: &[u8], links: usize, i: usize) -> bool
@@ -352,11 +225,11 @@ fn operator_ok(mem: &[u8], links: usize, i: usize) -> bool
 {
     let at = machine_layout::operator_at(i);
     let kind = mem[at];
-    if !ports_ok(kind, mem, links, at + machine_layout::PORTS_AT) {
-        return false;
-    }
-    let word = value::bytes::load(mem, machine_layout::register_at(i));
-    register_ok(kind, word)
+    ports_ok(kind, mem, links, at + machine_layout::PORTS_AT)
+        && register_ok(
+            kind,
+            value::bytes::load(mem, machine_layout::register_at(i)),
+        )
 }
 
 pub fn operators_ok(mem: &[u8], n: usize) -> bool
@@ -364,15 +237,7 @@ pub fn operators_ok(mem: &[u8], n: usize) -> bool
     ensures { result ≡ all_below n (operator_ok mem.now) }
 {
     let links = machine_layout::links(mem);
-    let mut i = 0;
-    while i < n {
-        if operator_ok(mem, links, i) {
-            i += 1;
-        } else {
-            return false;
-        }
-    }
-    true
+    (0..n).all(|i| operator_ok(mem, links, i))
 }
 
 fn stretch_ok(q: &[u8]) -> bool
@@ -380,116 +245,62 @@ fn stretch_ok(q: &[u8]) -> bool
     ensures { result ≡ stretch_ok q.now }
 {
     let n = machine_queue::waiting(q);
-    if n == 0 {
-        return true;
-    }
-    if q.len() < 5 * n + 1 {
-        return false;
-    }
-    let mut j = 0;
-    while j < n {
-        if value::bytes::is_value(value::bytes::load(q, 5 * j + 1)) {
-            j += 1;
-        } else {
-            return false;
-        }
-    }
-    true
+    5 * n < q.len() && (0..n).all(|j| value::bytes::is_value(value::bytes::load(q, 5 * j + 1)))
 }
 
-// Of the links from `base` on.
-fn link_ok(mem: &[u8], base: usize, size: usize, l: usize) -> bool
-    requires { (least_size ≤ size) × (size ≤ most_size) × (need_from base size ≤ length mem.now) × (l < most_links) }
-    ensures { result ≡ link_ok_from mem.now base size l }
+fn link_ok(mem: &[u8], links: Stretches, l: usize) -> bool
+    requires { (need_from links.base links.size ≤ length mem.now) × (l < most_links) }
+    ensures { result ≡ link_ok_from mem.now links.base links.size l }
 {
-    let a = machine_layout::link_from(base, size, l);
-    let e = a + size;
+    let a = machine_layout::link_from(links.base, links.size, l);
+    let e = a + links.size;
     stretch_ok(&mem[a..e])
 }
 
-pub fn links_ok(mem: &[u8], base: usize, size: usize, k: usize) -> bool
-    requires { (least_size ≤ size) × (size ≤ most_size) × (need_from base size ≤ length mem.now) × (k ≤ most_links) }
-    ensures { result ≡ all_below k (link_ok_from mem.now base size) }
+pub fn links_ok(mem: &[u8], links: Stretches, k: usize) -> bool
+    requires { (need_from links.base links.size ≤ length mem.now) × (k ≤ most_links) }
+    ensures { result ≡ all_below k (link_ok_from mem.now links.base links.size) }
 {
-    let mut l = 0;
-    while l < k {
-        if link_ok(mem, base, size, l) {
-            l += 1;
-        } else {
-            return false;
-        }
-    }
-    true
+    (0..k).all(|l| link_ok(mem, links, l))
 }
 
 // The header's figures but for the capacity and the sets untaken.
+#[tactic(auto, unfolding(crate::specs::Valid::counts_ok))]
 pub fn counts_ok(mem: &[u8]) -> bool
     requires { records_at ≤ length mem.now }
     ensures { result ≡ counts_ok mem.now }
 {
-    if machine_layout::OPERATORS < machine_layout::operators(mem) {
-        return false;
-    }
     let links = machine_layout::links(mem);
-    if machine_layout::LINKS < links {
-        return false;
-    }
-    if machine_layout::INPUTS < machine_layout::inputs(mem) {
-        return false;
-    }
-    let results = machine_layout::results(mem);
-    if results < 1 {
-        return false;
-    }
-    if machine_layout::RESULTS < results {
-        return false;
-    }
     let trigger = machine_layout::trigger(mem);
-    if trigger < links {
-        return true;
-    }
-    trigger == machine_firing::NOWHERE
+    machine_layout::operators(mem) <= machine_layout::OPERATORS
+        && links <= machine_layout::LINKS
+        && machine_layout::inputs(mem) <= machine_layout::INPUTS
+        && (1..=machine_layout::RESULTS).contains(&machine_layout::results(mem))
+        && (trigger < links || trigger == NOWHERE)
 }
 
+#[tactic(auto, unfolding(crate::specs::Valid::figures_ok))]
 fn figures_ok(mem: &[u8]) -> bool
     requires { records_at ≤ length mem.now }
     ensures { result ≡ figures_ok mem.now }
 {
-    let capacity = machine_layout::capacity_stored(mem);
-    if capacity < 1 {
-        return false;
-    }
-    if machine_layout::CAPACITY < capacity {
-        return false;
-    }
-    if machine_layout::UNTAKEN < machine_layout::untaken(mem) {
-        return false;
-    }
-    counts_ok(mem)
+    (1..=machine_layout::CAPACITY).contains(&machine_layout::capacity_stored(mem))
+        && machine_layout::untaken(mem) <= machine_layout::UNTAKEN
+        && counts_ok(mem)
 }
 
-// The parts are public, links over their base, for a machine that has the same graph in its memory.
+// The parts are public, links over where they lie, for a machine that has the same graph in its memory.
+#[tactic(auto, using(crate::specs::Figures::size_is), unfolding(crate::specs::Valid::valid))]
 pub fn is_valid(mem: &[u8]) -> bool
     requires { need (size_of (capacity_of mem.now)) ≤ length mem.now }
     ensures { result ≡ valid mem.now }
 {
-    if !figures_ok(mem) {
-        return false;
-    }
-    if !operators_ok(mem, machine_layout::operators(mem)) {
-        return false;
-    }
-    let size = machine_layout::stretch_size(machine_layout::capacity(mem));
-    let links = machine_layout::links(mem);
-    if !links_ok(mem, machine_layout::LINKS_AT, size, links) {
-        return false;
-    }
+    let places = Stretches::of(mem);
     let inputs = machine_layout::inputs(mem);
-    if !inputs_ok(mem, inputs + 1) {
-        return false;
-    }
-    if !letters_ok(mem, inputs) {
-        return false;
-    }
-    results_ok(mem, machine_layout::results(mem))
+    figures_ok(mem)
+        && operators_ok(mem, machine_layout::operators(mem))
+        && links_ok(mem, places, machine_layout::links(mem))
+        && inputs_ok(mem, inputs + 1)
+        && letters_ok(mem, inputs)
+        && results_ok(mem, machine_layout::results(mem))
 }

@@ -1,15 +1,15 @@
 -- What making the whole graph needs and gives (src/lib): the formula's row, with the links of its free names, is the translation's graph.
-use Prim.Native.Nat.{ℕ, zero, suc, ◌+◌, ◌-◌, ◌*◌, ◌/◌, ◌%◌, ◌^◌, ◌≤◌, ◌<◌}
+use Prim.Native.Nat.{ℕ, zero, suc, ◌+◌, ◌-◌, ◌/◌, ◌%◌, ◌^◌, ◌≤◌, ◌<◌}
 use mathlib.Core.Path.{◌≡◌, refl, sym, ap, ap₂, ◌∙◌, subst}
 use mathlib.Core.Bool.{Bool, false, cond}
-use mathlib.Core.List.{List, [], ◌∷◌, ◌++◌}
+use mathlib.Core.List.{List, ◌∷◌, ◌++◌}
 use lib.ListN.{length, get_or, take, set, replicate}
 use lib.Seq.{length-take-le}
 use lib.Bits.{bit_and}
 use lib.Dec.{eqb}
 use native.Mathlib.Omega.{arith}
 use Rattle.machine_layout.specs.Layout.{most_links}
-use Rattle.names.specs.Names.{trigger, one, without, mask, size, size_from, below}
+use Rattle.names.specs.Names.{trigger, one, without, mask, size, size_from, below, names_in}
 use Rattle.names.proofs.Sets.{known-minus, known-has, mask_one, size-le}
 use Rattle.names.proofs.Counts.{size_from-le, size_from-cong}
 use Rattle.formula.specs.Sheet.{shape_at}
@@ -21,7 +21,7 @@ use Rattle.graph.specs.Assembly.{up_from, operators_of}
 use Rattle.graph.specs.Translation.{graph_e, port_of, made_of}
 use Rattle.theory_wiring.proofs.MadeGraph.{trigger-link}
 use Rattle.maker_laid.specs.Environments.{Agrees}
-use Rattle.maker_laid.specs.Masked.{list_of, Mask, list-is, list_length, names_in}
+use Rattle.maker_laid.specs.Masked.{list_of, Mask, list-is, list_length}
 use Rattle.maker_laid.specs.Counts.{operator_count, operators-length}
 use Rattle.maker_laid.specs.Laid.{Laid}
 use Rattle.maker_laid.specs.Nodes.{Kids, Ready, free_in}
@@ -48,19 +48,6 @@ rising-again k i links h l e =
     ap₂ (λ (xs : List ℕ) (c : ℕ). set xs i c) (e ∙ ap (λ (c : ℕ). up_from 0 i ++ replicate c 65535) z) (omega arith) ∙ rising-turn 65535 0 i (32 - (i + 1))
     ∙ ap (λ (c : ℕ). up_from 0 c ++ replicate (32 - (i + 1)) 65535) (sym y)
 
-taken-turn : (v : ℕ) (xs : List ℕ) (i j : ℕ) → i < length xs → set (take i xs ++ replicate (suc j) v) i (get_or xs i 0) ≡ take (suc i) xs ++ replicate j v
-taken-turn v [] i j h = absurd (omega arith)
-taken-turn v (x ∷ xs) zero j h = refl
-taken-turn v (x ∷ xs) (suc i) j h = ap (λ (ys : List ℕ). x ∷ ys) (taken-turn v xs i j (omega arith))
-
-pub taken-again : (k i : ℕ) (xs links : List ℕ) → i < k → k ≤ 16 → length xs ≡ 33 → links ≡ take i xs ++ replicate (16 - i) 65535
-    → set links i (get_or xs i 0) ≡ take (i + 1) xs ++ replicate (16 - (i + 1)) 65535
-taken-again k i xs links h l g e =
-    let z : 16 - i ≡ suc (16 - (i + 1)) = omega arith in
-    let y : i + 1 ≡ suc i = omega arith in
-    ap (λ (ys : List ℕ). set ys i (get_or xs i 0)) (e ∙ ap (λ (c : ℕ). take i xs ++ replicate c 65535) z) ∙ taken-turn 65535 xs i (16 - (i + 1)) (omega arith)
-    ∙ ap (λ (c : ℕ). take c xs ++ replicate (16 - (i + 1)) 65535) (sym y)
-
 length_up : (a k : ℕ) → length (up_from a k) ≡ k
 unfolding up_from
 length_up a zero = refl
@@ -70,11 +57,6 @@ pub rising-end : (k i : ℕ) (links : List ℕ) → i ≤ k → k ≤ i → link
 rising-end k i links h l e =
     let z : i ≡ k = omega arith in
     e ∙ ap (λ (c : ℕ). up_from 0 c ++ replicate (32 - c) 65535) z ∙ ap (λ (c : ℕ). up_from 0 k ++ replicate (32 - c) 65535) (sym (length_up 0 k))
-
-pub taken-end : (k i : ℕ) (xs links : List ℕ) → i ≤ k → k ≤ i → k ≤ 16 → length xs ≡ 33 → links ≡ take i xs ++ replicate (16 - i) 65535 → links ≡ padded 16 (take k xs)
-taken-end k i xs links h l m g e =
-    let z : i ≡ k = omega arith in
-    e ∙ ap (λ (c : ℕ). take c xs ++ replicate (16 - c) 65535) z ∙ ap (λ (c : ℕ). take k xs ++ replicate (16 - c) 65535) (sym (length-take-le k xs (omega arith)))
 
 -- ---- the whole
 

@@ -1,6 +1,6 @@
 -- The tables that reading an accepted sheet gives (sheet_read/specs/Reading: Accepts) are such that the maker can work on them, and the formula that it makes
 -- the graph of is the sheet's. Document 01: "the last is the formula"; tests 1 to 10. Assumes an admissible sheet.
-use Rattle.std.specs.Prelude.{ℕ, ◌+◌, ◌-◌, ◌*◌, ◌≤◌, ◌<◌, ◌≡◌, Bool, List, length, take}
+use Rattle.std.specs.Prelude.{ℕ, ◌*◌, ◌≡◌, Bool, List, length, take}
 use Rattle.std.proofs.Math.Path.{refl, ap₂, subst}
 use Rattle.std.proofs.Common.{sym, ap, ◌∙◌, arith}
 use Rattle.std.proofs.Math.Bool.{true, false}

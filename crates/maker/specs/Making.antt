@@ -1,7 +1,7 @@
 -- What making a formula's graph gives: the translation (graph/specs/Translation: made_of) as operators in the machine's memory, and by value the
 -- numbers and links that start stores besides. Document 01, "The graph", and "Running": "Push gives one value to each input link, and one trigger
 -- if that link exists .. Take removes one value from each result port." Assumes nothing; Makeable is what the maker asks of a sheet's tables.
-use Rattle.std.specs.Prelude.{ℕ, ◌+◌, ◌-◌, ◌*◌, ◌≤◌, ◌≡◌, false, cond, List, [], ◌∷◌, ◌++◌, length, replicate}
+use Rattle.std.specs.Prelude.{ℕ, ◌-◌, ◌≤◌, ◌≡◌, false, cond, List, ◌++◌, length, replicate}
 use Rattle.machine_layout.specs.Layout.{most_operators, most_links, no_link}
 use Rattle.formula.specs.Tree.{Exp, exp_of}
 use Rattle.formula.specs.Admitted.{AdmittedE}

@@ -1,8 +1,8 @@
 #![tactic(auto)]
 // The whole graph of an accepted sheet (document 01, "The graph"): its operators in the machine's memory,
 // and by value what start stores besides them.
-ghost use Rattle.std.specs.Prelude.{◌≡◌, cond, ◌++◌, ◌+◌, ◌*◌, ◌-◌, ◌≤◌, ◌<◌, length, take};
-ghost use Rattle.machine_layout.specs.Layout.{links_at, no_link};
+ghost use Rattle.std.specs.Prelude.{◌≡◌, ◌++◌, ◌+◌, ◌*◌, ◌-◌, ◌≤◌, ◌<◌, length, take};
+ghost use Rattle.machine_layout.specs.Layout.{links_at};
 ghost use Rattle.formula.specs.Tree.{exp_of};
 ghost use Rattle.graph.specs.Assembly.{up_from};
 ghost use Rattle.maker.specs.Making.{Makeable, making_of, making_in, padded};
@@ -10,7 +10,7 @@ ghost use Rattle.maker.specs.Making.{Makeable, making_of, making_in, padded};
 use machine_layout::NO_LINK;
 use maker_joins::Next;
 use maker_parts::{names_in, numbered};
-use maker_rows::{EXPRESSION, row};
+use maker_rows::{EXPRESSION, Tables, row};
 use names::{TRIGGER, TRIGGER_MASK, has, minus};
 use sheet_tables::masks::mask_at;
 
@@ -33,10 +33,8 @@ fn rising(k: usize) -> [u16; 32]
     ensures { result ≡ padded 32 (up_from 0 k) }
 {
     let mut links = [NO_LINK; 32];
-    let mut i = 0;
-    while i < k {
+    for i in 0..k {
         links[i] = i as u16;
-        i += 1;
     }
     links
 }
@@ -47,23 +45,8 @@ fn first_of(outs: [u16; 33], k: usize) -> [u16; 16]
     ensures { result ≡ padded 16 (take k outs) }
 {
     let mut links = [NO_LINK; 16];
-    let mut i = 0;
-    while i < k {
-        links[i] = outs[i];
-        i += 1;
-    }
+    links[..k].copy_from_slice(&outs[..k]);
     links
-}
-
-// The trigger's link is behind those of the inputs, where a constant needs it.
-fn trigger_link(needed: bool, inputs: usize) -> u16
-    requires { inputs ≤ 32 }
-    ensures { result ≡ cond needed inputs no_link }
-{
-    if needed {
-        return inputs as u16;
-    }
-    NO_LINK
 }
 
 // The graph of the formula, row n of the fields t: masks and widths are the free names and the returned
@@ -74,7 +57,9 @@ pub fn make(t: &[u32], n: usize, masks: &[u64], widths: &[u8], mem: &mut [u8]) -
 {
     let free = mask_at(masks, n);
     let inputs = names_in(minus(free, TRIGGER_MASK));
-    let trigger = trigger_link(has(free, TRIGGER), inputs);
+    // the trigger's link is behind those of the inputs, where a constant needs it
+    let needed = has(free, TRIGGER);
+    let trigger = if needed { inputs as u16 } else { NO_LINK };
     let input_links = rising(inputs);
     let k = names_in(free);
     let env = numbered(free, 0);
@@ -82,7 +67,8 @@ pub fn make(t: &[u32], n: usize, masks: &[u64], widths: &[u8], mem: &mut [u8]) -
         link: k,
         operator: 0,
     };
-    let x = row(t, masks, widths, EXPRESSION, n, env, next, mem);
+    let tables = Tables { t, masks, widths };
+    let x = row(&tables, EXPRESSION, n, env, next, mem);
     let outs = x.outs;
     let result_links = first_of(outs, x.count);
     Making {

@@ -1,43 +1,24 @@
 -- One turn and the end of each emitter's loop. The equations say that what is written and what is still to be written are together what was to be
 -- written. Assumes nothing.
-use Prim.Native.Nat.{ℕ, zero, suc, ◌+◌, ◌-◌, ◌*◌, ◌/◌, ◌%◌, ◌^◌, ◌≤◌, ◌<◌}
+use Prim.Native.Nat.{ℕ, suc, ◌+◌, ◌-◌, ◌/◌, ◌%◌, ◌^◌, ◌≤◌, ◌<◌}
 use lib.Dec.{eqb}
-use mathlib.Core.Path.{◌≡◌, refl, sym, ap, ap₂, ◌∙◌}
-use mathlib.Core.Bool.{Bool, true, false}
-use mathlib.Core.List.{List, [], ◌∷◌, ◌++◌, map, append-nil, append_assoc}
-use lib.ListN.{length, get_or, set, take, drop, length-drop}
-use lib.Seq.{take-suc, get_or-drop}
+use mathlib.Core.Path.{◌≡◌, sym, ap, ap₂, ◌∙◌}
+use mathlib.Core.Bool.{Bool}
+use mathlib.Core.List.{List, [], ◌∷◌, ◌++◌, append-nil}
+use lib.ListN.{length, get_or, set, take, drop}
 use native.Mathlib.Omega.{arith}
 use Rattle.machine_layout.specs.Record.{placed}
 use Rattle.machine_layout.specs.declared.Operator.{Operator as Record}
 use Rattle.graph.specs.Assembly.{copies_for, chain, chain_ends, ring, ring_gate}
 use Rattle.maker_laid.specs.Encode.{encode, encoded, written, written_none, written-more}
-use Rattle.maker_laid.specs.Masked.{list_of, names_in, Mask, Walked, mask-ended}
-use Rattle.maker_laid.specs.Emitted.{link_in, copy_record, gate_record, copies-more, copies-none, row_records, row_outputs, row-none, row_last, row_more, outputs-more, outputs-last, outputs-none, chain_more, chain-few, ends_more, ends_last, ends-none, ring-none, ring-more}
+use Rattle.names.specs.Names.{names_in}
+use Rattle.maker_laid.specs.Emitted.{link_in, copy_record, gate_record, copies-more, copies-none, row_records, row_outputs, row-none, row_last, row_more, outputs-more, outputs-last, chain_more, chain-few, ends_more, ends_last, ring-none, ring-more}
 use Rattle.maker_emit.proofs.Turns.{fill-turn}
 
 -- ---- arrays
 
 put-more : (ls : List ℕ) (k y : ℕ) → k < length ls → take (k + 1) (set ls k y) ≡ take k ls ++ (y ∷ [])
 put-more ls k y h = sym (append-nil (take (k + 1) (set ls k y))) ∙ fill-turn ls k y [] h
-
-take_more : (ls : List ℕ) (k : ℕ) → k < length ls → take (k + 1) ls ≡ take k ls ++ (get_or ls k 0 ∷ [])
-take_more ls k h = let z : k + 1 ≡ suc k = omega arith in rw z (take-suc ls k 0 h)
-
-pub join-turn : (r a b : List ℕ) (k i : ℕ) → k + i < length r → i < length b → take (k + i) r ≡ take k a ++ take i b
-    → take (k + (i + 1)) (set r (k + i) (get_or b i 0)) ≡ take k a ++ take (i + 1) b
-join-turn r a b k i h l e =
-    let z : k + (i + 1) ≡ k + i + 1 = omega arith in
-    rw z (put-more r (k + i) (get_or b i 0) h)
-    ∙ ap (λ (t : List ℕ). t ++ (get_or b i 0 ∷ [])) e ∙ append_assoc (take k a) (take i b) (get_or b i 0 ∷ [])
-    ∙ ap (λ (t : List ℕ). take k a ++ t) (sym (take_more b i l))
-
-pub part-turn : (r a : List ℕ) (from i : ℕ) → i < length r → from + i < length a → take i r ≡ take i (drop from a)
-    → take (i + 1) (set r i (get_or a (from + i) 0)) ≡ take (i + 1) (drop from a)
-part-turn r a from i h l e =
-    put-more r i (get_or a (from + i) 0) h
-    ∙ ap₂ (λ (t : List ℕ) (y : ℕ). t ++ (y ∷ [])) e (sym (get_or-drop from a i 0))
-    ∙ sym (take_more (drop from a) i (let d : length (drop from a) ≡ length a - from = length-drop from a in omega arith))
 
 -- ---- copies
 
@@ -49,21 +30,21 @@ share-turn mem i x xs env first second =
     rw (z, copies-more x xs (link_in env) (link_in first) (link_in second))
     (sym (written-more mem i (copy_record (get_or env x 0) (get_or first x 0) (get_or second x 0)) (encoded (copies_for xs (link_in env) (link_in first) (link_in second)))))
 
-pub share_again : (m x r : ℕ) (w : Walked m x r) (mem : List ℕ) (i : ℕ) (env first second mem' : List ℕ) (o : Record) (all : List ℕ)
-    → mem' ≡ placed mem i o → o ≡ copy_record (get_or env x 0) (get_or first x 0) (get_or second x 0)
-    → written mem i (encoded (copies_for (list_of m) (link_in env) (link_in first) (link_in second))) ≡ all
-    → written mem' (i + 1) (encoded (copies_for (list_of r) (link_in env) (link_in first) (link_in second))) ≡ all
-share_again m x r w mem i env first second mem' o all p q e =
-    ap (λ (t : List ℕ). written t (i + 1) (encoded (copies_for (list_of r) (link_in env) (link_in first) (link_in second)))) (p ∙ ap (placed mem i) q)
-    ∙ share-turn mem i x (list_of r) env first second
-    ∙ ap (λ (xs : List ℕ). written mem i (encoded (copies_for xs (link_in env) (link_in first) (link_in second)))) (sym w.walk) ∙ e
+module _ (xs : List ℕ) (mem : List ℕ) (i : ℕ) (env first second all : List ℕ)
+    (e : written mem i (encoded (copies_for xs (link_in env) (link_in first) (link_in second))) ≡ all) where
+  pub share_again : (ys : List ℕ) (x : ℕ) → xs ≡ x ∷ ys → (mem' : List ℕ) (o : Record) → mem' ≡ placed mem i o
+      → o ≡ copy_record (get_or env x 0) (get_or first x 0) (get_or second x 0)
+      → written mem' (i + 1) (encoded (copies_for ys (link_in env) (link_in first) (link_in second))) ≡ all
+  share_again ys x w mem' o p q =
+      ap (λ (t : List ℕ). written t (i + 1) (encoded (copies_for ys (link_in env) (link_in first) (link_in second)))) (p ∙ ap (placed mem i) q)
+      ∙ share-turn mem i x ys env first second
+      ∙ ap (λ (t : List ℕ). written mem i (encoded (copies_for t (link_in env) (link_in first) (link_in second)))) (sym w) ∙ e
 
-pub share-end : (m : ℕ) (k : Mask m) (z : m ≡ 0) (mem : List ℕ) (i : ℕ) (env first second all : List ℕ)
-    → written mem i (encoded (copies_for (list_of m) (link_in env) (link_in first) (link_in second))) ≡ all → mem ≡ all
-share-end m k z mem i env first second all e =
-    sym (ap (λ (xs : List ℕ). written mem i (encoded (copies_for xs (link_in env) (link_in first) (link_in second)))) (mask-ended m k z)
-    ∙ ap (written mem i) (copies-none (link_in env) (link_in first) (link_in second)) ∙ written_none mem i)
-    ∙ e
+  pub share-end : xs ≡ [] → mem ≡ all
+  share-end z =
+      sym (ap (λ (t : List ℕ). written mem i (encoded (copies_for t (link_in env) (link_in first) (link_in second)))) z
+      ∙ ap (written mem i) (copies-none (link_in env) (link_in first) (link_in second)) ∙ written_none mem i)
+      ∙ e
 
 -- ---- a row of gates
 
@@ -104,13 +85,6 @@ module _ (outs : List ℕ) (i k l left : ℕ) (all : List ℕ) (e : take i outs 
       ap (λ (y : ℕ). take y (set outs i l)) (sym z) ∙ put-more outs i l q
       ∙ ap (λ (t : List ℕ). take i outs ++ t) (sym (outputs-last l) ∙ ap (row_outputs l) (sym h)) ∙ e
 
-  pub outs-over : left ≤ 1 → (left ≡ 1 → ⊥) → take k outs ≡ all
-  outs-over h n =
-      let z : left ≡ 0 = omega arith in
-      let y : i ≡ k = omega arith in
-      ap (λ (j : ℕ). take j outs) (sym y) ∙ sym (append-nil (take i outs))
-      ∙ ap (λ (t : List ℕ). take i outs ++ t) (sym (outputs-none l) ∙ ap (row_outputs l) (sym z)) ∙ e
-
 -- ---- a chain of copies
 
 module _ (c to left : ℕ) (mem : List ℕ) (at : ℕ) (all : List ℕ) (e : written mem at (encoded (chain c to left)) ≡ all) where
@@ -136,37 +110,29 @@ module _ (ends : List ℕ) (i k c to left : ℕ) (all : List ℕ) (e : take i en
       ap (λ (y : ℕ). take y (set ends i c)) (sym z) ∙ put-more ends i c q
       ∙ ap (λ (t : List ℕ). take i ends ++ t) (sym (ends_last c to) ∙ ap (chain_ends c to) (sym h)) ∙ e
 
-  pub ends-over : left ≤ 1 → (left ≡ 1 → ⊥) → take k ends ≡ all
-  ends-over h n =
-      let z : left ≡ 0 = omega arith in
-      let y : i ≡ k = omega arith in
-      ap (λ (j : ℕ). take j ends) (sym y) ∙ sym (append-nil (take i ends))
-      ∙ ap (λ (t : List ℕ). take i ends ++ t) (sym (ends-none c to) ∙ ap (chain_ends c to) (sym z)) ∙ e
-
 -- ---- the ring of a loop
 
 module _ (ids : ℕ) (cs iterated started own out : List ℕ) where
-  abbrev rest-of-ring : ℕ → ℕ → List Record
-  rest-of-ring m k = encoded (ring (list_of m) (names_in ids) (drop k cs) (link_in iterated) (link_in started) (link_in own) (link_in out))
+  abbrev rest-of-ring : List ℕ → ℕ → List Record
+  rest-of-ring xs k = encoded (ring xs (names_in ids) (drop k cs) (link_in iterated) (link_in started) (link_in own) (link_in out))
 
-  pub ring-again : (m x r : ℕ) (w : Walked m x r) (mem : List ℕ) (at k : ℕ) (mem' : List ℕ) (o : Record) (b : Bool) (all : List ℕ) → k < length cs
+  pub ring-again : (xs ys : List ℕ) (x : ℕ) → xs ≡ x ∷ ys → (mem : List ℕ) (at k : ℕ) (mem' : List ℕ) (o : Record) (b : Bool) (all : List ℕ) → k < length cs
       → mem' ≡ placed mem (at + k) o
       → o ≡ encode (ring_gate b (get_or cs k 0) (get_or iterated x 0) (get_or started x 0) (get_or own x 0) (get_or out x 0))
       → b ≡ eqb (ids / 2 ^ x % 2) 1
-      → written mem (at + k) (rest-of-ring m k) ≡ all → written mem' (at + (k + 1)) (rest-of-ring r (k + 1)) ≡ all
+      → written mem (at + k) (rest-of-ring xs k) ≡ all → written mem' (at + (k + 1)) (rest-of-ring ys (k + 1)) ≡ all
   unfolding names_in
-  ring-again m x r w mem at k mem' o b all h p q f e =
+  ring-again xs ys x w mem at k mem' o b all h p q f e =
       let z : at + (k + 1) ≡ suc (at + k) = omega arith in
       let g = encode (ring_gate (names_in ids x) (get_or cs k 0) (get_or iterated x 0) (get_or started x 0) (get_or own x 0) (get_or out x 0)) in
       let d : mem' ≡ placed mem (at + k) g = p ∙ ap (placed mem (at + k)) (q ∙ ap (λ (y : Bool). encode (ring_gate y (get_or cs k 0) (get_or iterated x 0) (get_or started x 0) (get_or own x 0) (get_or out x 0))) f) in
       rw (z, d)
-      (sym (written-more mem (at + k) g (rest-of-ring r (k + 1)))
-      ∙ ap (written mem (at + k)) (sym (ring-more (names_in ids) (link_in iterated) (link_in started) (link_in own) (link_in out) x (list_of r) cs k h))
-      ∙ ap (λ (xs : List ℕ). written mem (at + k) (encoded (ring xs (names_in ids) (drop k cs) (link_in iterated) (link_in started) (link_in own) (link_in out)))) (sym w.walk)
-      ∙ e)
+      (sym (written-more mem (at + k) g (rest-of-ring ys (k + 1)))
+      ∙ ap (written mem (at + k)) (sym (ring-more (names_in ids) (link_in iterated) (link_in started) (link_in own) (link_in out) x ys cs k h))
+      ∙ ap (λ (t : List ℕ). written mem (at + k) (rest-of-ring t k)) (sym w) ∙ e)
 
-  pub ring-over : (m : ℕ) (i : Mask m) (z : m ≡ 0) (mem : List ℕ) (at k : ℕ) (all : List ℕ) → written mem at (rest-of-ring m k) ≡ all → mem ≡ all
-  ring-over m i z mem at k all e =
-      sym (ap (λ (xs : List ℕ). written mem at (encoded (ring xs (names_in ids) (drop k cs) (link_in iterated) (link_in started) (link_in own) (link_in out)))) (mask-ended m i z)
+  pub ring-over : (xs : List ℕ) → xs ≡ [] → (mem : List ℕ) (at k : ℕ) (all : List ℕ) → written mem at (rest-of-ring xs k) ≡ all → mem ≡ all
+  ring-over xs z mem at k all e =
+      sym (ap (λ (t : List ℕ). written mem at (rest-of-ring t k)) z
       ∙ ap (written mem at) (ring-none (names_in ids) (link_in iterated) (link_in started) (link_in own) (link_in out) (drop k cs)) ∙ written_none mem at)
       ∙ e

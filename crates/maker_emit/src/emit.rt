@@ -6,10 +6,12 @@ ghost use Rattle.machine_layout.specs.Layout.{most_operators, links_at, no_link}
 ghost use Rattle.graph.specs.Assembly.{copies_for, chain, chain_ends, ring};
 ghost use Rattle.maker_laid.specs.Encode.{encoded, written};
 ghost use Rattle.maker_laid.specs.Emitted.{link_in, row_records, row_outputs};
-ghost use Rattle.maker_laid.specs.Masked.{list_of, names_in, Mask};
+ghost use Rattle.maker_laid.specs.Masked.{list_of, Mask};
+ghost use Rattle.names.specs.Names.{names_in};
 
-use crate::records::{copy_of, gate_of, next, ring_gate};
+use crate::records::{copy_of, gate_of, ring_gate};
 use machine_layout::store_operator;
+use names::{has, members};
 
 // A copy for each name of a mask: from its link to those that two parts have for it.
 pub fn share(
@@ -23,14 +25,8 @@ pub fn share(
     requires { Mask mask × (m + length (list_of mask) ≤ most_operators) × (links_at ≤ length mem.old) }
     ensures { mem.new ≡ written mem.old m (encoded (copies_for (list_of mask) (link_in env) (link_in first) (link_in second))) }
 {
-    let mut rest = mask;
-    let mut i = m;
-    while rest != 0 {
-        let turn = next(rest);
-        let x = turn.name;
-        store_operator(mem, i, copy_of(env[x], first[x], second[x]));
-        i += 1;
-        rest = turn.rest;
+    for (i, x) in members(mask).enumerate() {
+        store_operator(mem, m + i, copy_of(env[x], first[x], second[x]));
     }
 }
 
@@ -49,25 +45,22 @@ pub fn gate_row(
     ensures { (mem.new ≡ written mem.old m (row_records kind control n a b 0 k)) × (take k result ≡ row_outputs n k) }
 {
     let mut outs = [0u16; 33];
-    let mut i = 0;
-    let mut left = k;
-    let mut at = m;
-    let mut l = n;
+    if k == 0 {
+        return outs;
+    }
+    let last = k - 1;
     let mut c = control;
-    while 1 < left {
+    for i in 0..last {
+        let at = m + 2 * i;
+        let l = n + 3 * i as u16;
         store_operator(mem, at, copy_of(c, l, l + 1));
         store_operator(mem, at + 1, gate_of(kind, l, a[i], b[i], l + 2));
         outs[i] = l + 2;
         c = l + 1;
-        l += 3;
-        at += 2;
-        i += 1;
-        left -= 1;
     }
-    if left == 1 {
-        store_operator(mem, at, gate_of(kind, c, a[i], b[i], l));
-        outs[i] = l;
-    }
+    let l = n + 3 * last as u16;
+    store_operator(mem, m + 2 * last, gate_of(kind, c, a[last], b[last], l));
+    outs[last] = l;
     outs
 }
 
@@ -77,23 +70,18 @@ pub fn spread(mem: &mut [u8], m: usize, n: u16, l: u16, k: usize) -> [u16; 33]
     ensures { (mem.new ≡ written mem.old m (encoded (chain l n k))) × (take k result ≡ chain_ends l n k) }
 {
     let mut ends = [0u16; 33];
-    let mut i = 0;
-    let mut left = k;
-    let mut at = m;
-    let mut to = n;
+    if k == 0 {
+        return ends;
+    }
+    let last = k - 1;
     let mut c = l;
-    while 1 < left {
-        store_operator(mem, at, copy_of(c, to, to + 1));
+    for i in 0..last {
+        let to = n + 2 * i as u16;
+        store_operator(mem, m + i, copy_of(c, to, to + 1));
         ends[i] = to;
         c = to + 1;
-        to += 2;
-        at += 1;
-        i += 1;
-        left -= 1;
     }
-    if left == 1 {
-        ends[i] = c;
-    }
+    ends[last] = c;
     ends
 }
 
@@ -113,13 +101,9 @@ pub fn ring_gates(
     requires { Mask mask × (m + length (list_of mask) ≤ most_operators) × (links_at ≤ length mem.old) }
     ensures { mem.new ≡ written mem.old m (encoded (ring (list_of mask) (names_in ids) controls (link_in iterated) (link_in started) (link_in own) (link_in out))) }
 {
-    let mut rest = mask;
-    let mut k = 0;
-    while rest != 0 {
-        let turn = next(rest);
-        let x = turn.name;
+    for (k, x) in members(mask).enumerate() {
         let o = ring_gate(
-            names::has(ids, x as u32),
+            has(ids, x as u32),
             controls[k],
             iterated[x],
             started[x],
@@ -127,7 +111,5 @@ pub fn ring_gates(
             out[x],
         );
         store_operator(mem, m + k, o);
-        k += 1;
-        rest = turn.rest;
     }
 }

@@ -7,12 +7,7 @@ pub fn join(a: [u16; 33], k: usize, b: [u16; 33], j: usize) -> [u16; 33]
     ensures { take (k + j) result ≡ take k a ++ take j b }
 {
     let mut r = a;
-    let mut i = 0;
-    while i < j {
-        let at = k + i;
-        r[at] = b[i];
-        i += 1;
-    }
+    r[k..k + j].copy_from_slice(&b[..j]);
     r
 }
 
@@ -22,11 +17,6 @@ pub fn part(a: [u16; 33], from: usize, k: usize) -> [u16; 33]
     ensures { take k result ≡ take k (drop from a) }
 {
     let mut r = [0u16; 33];
-    let mut i = 0;
-    while i < k {
-        let at = from + i;
-        r[i] = a[at];
-        i += 1;
-    }
+    r[..k].copy_from_slice(&a[from..from + k]);
     r
 }

@@ -5,9 +5,10 @@ ghost use Rattle.machine_layout.specs.Layout.{most_links, no_link};
 ghost use Rattle.graph.specs.Assembly.{ring_gate, gate_of, IC as IC-gate};
 ghost use Rattle.maker_laid.specs.Encode.{encode};
 ghost use Rattle.maker_laid.specs.Emitted.{copy_record, gate_record, dealt, assigned, link_in};
-ghost use Rattle.maker_laid.specs.Masked.{list_of, Mask, Walked};
+ghost use Rattle.maker_laid.specs.Masked.{list_of, Mask};
 
 use machine_layout::{COPY, FM, FS, IC, NO_LINK, Operator};
+use names::members;
 
 // "two-way copies"
 pub fn copy_of(l: u16, a: u16, b: u16) -> Operator
@@ -87,38 +88,16 @@ pub fn ring_gate(
     gate_of(FS, control, own, NO_LINK, out)
 }
 
-// One turn of a walk over the names of a mask: the lowest name, and the mask without it.
-#[derive(Clone, Copy)]
-pub struct Walk {
-    pub name: usize,
-    pub rest: u64,
-}
-
-pub fn next(mask: u64) -> Walk
-    requires { Mask mask × (mask ≡ 0 → ⊥) }
-    ensures { Walked mask result.name result.rest }
-{
-    let name = names::lowest(mask) as usize;
-    Walk {
-        name,
-        rest: names::rest(mask),
-    }
-}
-
 // The names of a mask get the links n, n + step, ..
 pub fn deal(mask: u64, env: [u16; 33], n: u16, step: u16) -> [u16; 33]
     requires { Mask mask × (step ≤ 2) × (n + 2 * length (list_of mask) ≤ no_link) }
     ensures { result ≡ dealt step (list_of mask) n env }
 {
     let mut e = env;
-    let mut rest = mask;
     let mut l = n;
-    while rest != 0 {
-        let turn = next(rest);
-        let x = turn.name;
+    for x in members(mask) {
         e[x] = l;
         l += step;
-        rest = turn.rest;
     }
     e
 }
@@ -129,14 +108,8 @@ pub fn assign(mask: u64, env: [u16; 33], links: [u16; 33]) -> [u16; 33]
     ensures { result ≡ assigned (list_of mask) links env }
 {
     let mut e = env;
-    let mut rest = mask;
-    let mut k = 0;
-    while rest != 0 {
-        let turn = next(rest);
-        let x = turn.name;
+    for (k, x) in members(mask).enumerate() {
         e[x] = links[k];
-        k += 1;
-        rest = turn.rest;
     }
     e
 }
@@ -147,14 +120,8 @@ pub fn gather(mask: u64, env: [u16; 33]) -> [u16; 33]
     ensures { take (length (list_of mask)) result ≡ map (link_in env) (list_of mask) }
 {
     let mut links = [NO_LINK; 33];
-    let mut rest = mask;
-    let mut k = 0;
-    while rest != 0 {
-        let turn = next(rest);
-        let x = turn.name;
+    for (k, x) in members(mask).enumerate() {
         links[k] = env[x];
-        k += 1;
-        rest = turn.rest;
     }
     links
 }

@@ -36,6 +36,13 @@ pub struct Emitted {
     pub next: Next,
 }
 
+// A list of links: the first `len` places of `at`.
+#[derive(Clone, Copy)]
+pub struct LinkList {
+    pub at: [u16; 33],
+    pub len: usize,
+}
+
 // k gates of a kind with one control, on the links of `a` and `b`.
 pub fn gates(
     mem: &mut [u8],
@@ -67,32 +74,32 @@ pub fn gates(
 pub fn join_iterated(
     mem: &mut [u8],
     control: u16,
-    xs: [u16; 33],
-    i: usize,
-    ys: [u16; 33],
-    j: usize,
+    xs: LinkList,
+    ys: LinkList,
     next: Next,
 ) -> Emitted
-    requires { (i ≤ 16) × (j ≤ 16) × (0 < i → 0 < j → (i ≡ j) × (next.operator + 2 * i ≤ 1 + most_operators)) × (next.link ≤ 2 * most_links) × (links_at ≤ length mem.old) }
-    ensures { (result.count ≤ 16) × (result.iterated ≡ result.count) × (result.count ≡ cond (ltb 0 i) i j) × (result.next.operator ≡ next.operator + operator_count (join_i (ltb 0 i) (ltb 0 j) i j)) × (result.next.link ≤ next.link + 48) × ((env : Env) → ((i ≡ 0 → ⊥) → (j ≡ 0 → ⊥) → env (join_name + 1) ≡ control) → Reads env (iterated_name true) i xs → Reads env (iterated_name false) j ys → Laid (join_i (ltb 0 i) (ltb 0 j) i j) next.link next.operator env mem.old mem.new (take result.count result.outs) result.next.link result.next.operator) }
+    requires { (xs.len ≤ 16) × (ys.len ≤ 16) × (0 < xs.len → 0 < ys.len → (xs.len ≡ ys.len) × (next.operator + 2 * xs.len ≤ 1 + most_operators)) × (next.link ≤ 2 * most_links) × (links_at ≤ length mem.old) }
+    ensures { (result.count ≤ 16) × (result.iterated ≡ result.count) × (result.count ≡ cond (ltb 0 xs.len) xs.len ys.len) × (result.next.operator ≡ next.operator + operator_count (join_i (ltb 0 xs.len) (ltb 0 ys.len) xs.len ys.len)) × (result.next.link ≤ next.link + 48) × ((env : Env) → ((xs.len ≡ 0 → ⊥) → (ys.len ≡ 0 → ⊥) → env (join_name + 1) ≡ control) → Reads env (iterated_name true) xs.len xs.at → Reads env (iterated_name false) ys.len ys.at → Laid (join_i (ltb 0 xs.len) (ltb 0 ys.len) xs.len ys.len) next.link next.operator env mem.old mem.new (take result.count result.outs) result.next.link result.next.operator) }
 {
-    if i == 0 {
+    if xs.len == 0 {
+        let outs = ys.at;
         return Emitted {
-            outs: ys,
-            count: j,
-            iterated: j,
+            outs,
+            count: ys.len,
+            iterated: ys.len,
             next,
         };
     }
-    if j == 0 {
+    if ys.len == 0 {
+        let outs = xs.at;
         return Emitted {
-            outs: xs,
-            count: i,
-            iterated: i,
+            outs,
+            count: xs.len,
+            iterated: xs.len,
             next,
         };
     }
-    gates(mem, M, control, xs, ys, i, next)
+    gates(mem, M, control, xs.at, ys.at, xs.len, next)
 }
 
 // A link copied to k users.
@@ -118,77 +125,50 @@ fn copies(mem: &mut [u8], l: u16, k: usize, next: Next) -> Emitted
 pub fn join_returned(
     mem: &mut [u8],
     control: u16,
-    xs: [u16; 33],
-    i: usize,
-    ys: [u16; 33],
-    j: usize,
+    xs: LinkList,
+    ys: LinkList,
     w: usize,
     next: Next,
 ) -> Emitted
-    requires { (1 ≤ w) × (w ≤ 16) × (0 < i → i ≡ w) × (0 < j → j ≡ w) × (0 < i + j → next.operator + 2 * w ≤ 1 + most_operators) × (next.operator + w ≤ 1 + most_operators) × (next.link ≤ 2 * most_links) × (links_at ≤ length mem.old) }
-    ensures { (result.count ≡ w) × ((env : Env) → env (join_name + 2) ≡ control → Reads env (returned_name true) i xs → Reads env (returned_name false) j ys → Laid (join_r (ltb 0 i) (ltb 0 j) w) next.link next.operator env mem.old mem.new (take result.count result.outs) result.next.link result.next.operator) }
+    requires { (1 ≤ w) × (w ≤ 16) × (0 < xs.len → xs.len ≡ w) × (0 < ys.len → ys.len ≡ w) × (0 < xs.len + ys.len → next.operator + 2 * w ≤ 1 + most_operators) × (next.operator + w ≤ 1 + most_operators) × (next.link ≤ 2 * most_links) × (links_at ≤ length mem.old) }
+    ensures { (result.count ≡ w) × ((env : Env) → env (join_name + 2) ≡ control → Reads env (returned_name true) xs.len xs.at → Reads env (returned_name false) ys.len ys.at → Laid (join_r (ltb 0 xs.len) (ltb 0 ys.len) w) next.link next.operator env mem.old mem.new (take result.count result.outs) result.next.link result.next.operator) }
 {
     let none = [NO_LINK; 33];
-    if i == 0 {
-        if j == 0 {
+    if xs.len == 0 {
+        if ys.len == 0 {
             return copies(mem, control, w, next);
         }
-        return gates(mem, E, control, ys, none, w, next);
+        return gates(mem, E, control, ys.at, none, w, next);
     }
-    if j == 0 {
-        return gates(mem, E, control, xs, none, w, next);
+    if ys.len == 0 {
+        return gates(mem, E, control, xs.at, none, w, next);
     }
-    gates(mem, M, control, xs, ys, w, next)
+    gates(mem, M, control, xs.at, ys.at, w, next)
 }
 
-// Whether there is at least one.
-fn some(n: usize) -> bool
-    ensures { result ≡ ltb 0 n }
-{
-    0 < n
-}
-
-fn both_of(a: bool, b: bool) -> bool
-    ensures { result ≡ a && b }
-{
-    a && b
-}
-
-// "An output with no user is not emitted": the second, where not both arms iterate.
-fn ic_outputs(both: bool) -> u16
-    ensures { (result ≡ cond both 3 2) × (2 ≤ result) × (result ≤ 3) }
-{
-    if both {
-        return 3;
-    }
-    2
-}
-
-// The results of an arm of a body if: iter?, i iterated and r returned results.
+// The results of an arm of a body if: iter?, the iterated and the returned results.
 #[derive(Clone, Copy)]
 pub struct Arm {
     pub iter: u16,
-    pub iterated: [u16; 33],
-    pub i: usize,
-    pub returned: [u16; 33],
-    pub r: usize,
+    pub iterated: LinkList,
+    pub returned: LinkList,
 }
 
 pub fn results_of(x: Emitted) -> Arm
     requires { (1 + x.iterated ≤ x.count) × (x.count ≤ 33) }
-    ensures { (result.iter ≡ get_or x.outs 0 0) × (result.i ≡ x.iterated) × (take x.iterated result.iterated ≡ take x.iterated (drop 1 x.outs)) × (result.r ≡ x.count - (1 + x.iterated)) × (take (x.count - (1 + x.iterated)) result.returned ≡ take (x.count - (1 + x.iterated)) (drop (1 + x.iterated) x.outs)) }
+    ensures { (result.iter ≡ get_or x.outs 0 0) × (result.iterated.len ≡ x.iterated) × (take x.iterated result.iterated.at ≡ take x.iterated (drop 1 x.outs)) × (result.returned.len ≡ x.count - (1 + x.iterated)) × (take (x.count - (1 + x.iterated)) result.returned.at ≡ take (x.count - (1 + x.iterated)) (drop (1 + x.iterated) x.outs)) }
 {
     let outs = x.outs;
     let i = x.iterated;
     let r = x.count - (1 + i);
-    let iterated = part(outs, 1, i);
-    let returned = part(outs, 1 + i, r);
+    let at = part(outs, 1, i);
+    let iterated = LinkList { at, len: i };
+    let at = part(outs, 1 + i, r);
+    let returned = LinkList { at, len: r };
     Arm {
         iter: outs[0],
         iterated,
-        i,
         returned,
-        r,
     }
 }
 
@@ -206,23 +186,21 @@ fn listed(l: u16, a: Emitted, b: Emitted) -> [u16; 33]
 
 // What joins the arms of a body if: "one IC gate", the iterated results, the returned results.
 pub fn join_arms(mem: &mut [u8], w: usize, test: u16, x: Arm, y: Arm, next: Next) -> Emitted
-    requires { ((1 ≤ w) × (w ≤ 16)) × ((x.i ≤ 16) × (y.i ≤ 16)) × (0 < x.i → 0 < y.i → x.i ≡ y.i) × (0 < x.r → x.r ≡ w) × (0 < y.r → y.r ≡ w) × (next.operator + operator_count (join_graph (ltb 0 x.i) (ltb 0 y.i) (ltb 0 x.r) (ltb 0 y.r) x.i y.i w) ≤ most_operators) × (next.link ≤ most_links) × (links_at ≤ length mem.old) }
-    ensures { (result.iterated ≡ cond (ltb 0 x.i) x.i y.i) × (result.count ≡ 1 + result.iterated + w) × ((env : Env) → env test_name ≡ test → ArmLinks env true x.iter x.iterated x.i x.returned x.r → ArmLinks env false y.iter y.iterated y.i y.returned y.r → Laid (join_graph (ltb 0 x.i) (ltb 0 y.i) (ltb 0 x.r) (ltb 0 y.r) x.i y.i w) next.link next.operator env mem.old mem.new (take result.count result.outs) result.next.link result.next.operator) }
+    requires { ((1 ≤ w) × (w ≤ 16)) × ((x.iterated.len ≤ 16) × (y.iterated.len ≤ 16)) × (0 < x.iterated.len → 0 < y.iterated.len → x.iterated.len ≡ y.iterated.len) × (0 < x.returned.len → x.returned.len ≡ w) × (0 < y.returned.len → y.returned.len ≡ w) × (next.operator + operator_count (join_graph (ltb 0 x.iterated.len) (ltb 0 y.iterated.len) (ltb 0 x.returned.len) (ltb 0 y.returned.len) x.iterated.len y.iterated.len w) ≤ most_operators) × (next.link ≤ most_links) × (links_at ≤ length mem.old) }
+    ensures { (result.iterated ≡ cond (ltb 0 x.iterated.len) x.iterated.len y.iterated.len) × (result.count ≡ 1 + result.iterated + w) × ((env : Env) → env test_name ≡ test → ArmLinks env true x.iter x.iterated.at x.iterated.len x.returned.at x.returned.len → ArmLinks env false y.iter y.iterated.at y.iterated.len y.returned.at y.returned.len → Laid (join_graph (ltb 0 x.iterated.len) (ltb 0 y.iterated.len) (ltb 0 x.returned.len) (ltb 0 y.returned.len) x.iterated.len y.iterated.len w) next.link next.operator env mem.old mem.new (take result.count result.outs) result.next.link result.next.operator) }
 {
-    let both = both_of(some(x.i), some(y.i));
+    let both = 0 < x.iterated.len && 0 < y.iterated.len;
     let n = next.link as u16;
     store_operator(mem, next.operator, ic_of(both, test, x.iter, y.iter, n));
-    let at = n + ic_outputs(both);
+    // "An output with no user is not emitted": the second, where not both arms iterate.
+    let outputs = 2 + u16::from(both);
+    let at = n + outputs;
     let behind = Next {
         link: at as usize,
         operator: next.operator + 1,
     };
-    let xs = x.iterated;
-    let ys = y.iterated;
-    let i = join_iterated(mem, n + 1, xs, x.i, ys, y.i, behind);
-    let xt = x.returned;
-    let yt = y.returned;
-    let r = join_returned(mem, at - 1, xt, x.r, yt, y.r, w, i.next);
+    let i = join_iterated(mem, n + 1, x.iterated, y.iterated, behind);
+    let r = join_returned(mem, at - 1, x.returned, y.returned, w, i.next);
     let outs = listed(n, i, r);
     let end = r.next;
     Emitted {

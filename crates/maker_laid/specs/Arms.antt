@@ -1,12 +1,12 @@
 -- The arms of a body's if joined, from what the emitters wrote and gave (graph/specs/Translation: joined). Assumes widths of at most 16.
-use Rattle.std.specs.Prelude.{ℕ, zero, suc, ◌+◌, ◌-◌, ◌*◌, ◌≤◌, ◌<◌, ◌≡◌, refl, Bool, true, false, cond, ◌&&◌, List, [], ◌∷◌, ◌++◌, length, get_or}
-use Rattle.std.proofs.Common.{sym, ap₂, ◌∙◌, subst, arith}
+use Rattle.std.specs.Prelude.{ℕ, zero, suc, ◌+◌, ◌-◌, ◌≤◌, ◌<◌, ◌≡◌, Bool, true, false, cond, ◌&&◌, List, [], ◌∷◌, ◌++◌}
+use Rattle.std.proofs.Common.{sym, ap₂, ◌∙◌, arith}
 use Rattle.std.proofs.Math.Path.{ap}
 use Rattle.std.proofs.Math.Dec.{ltb}
 use Rattle.machine_layout.specs.Record.{placed}
 use Rattle.machine_layout.specs.declared.Operator.{Operator as Record}
 use Rattle.theory_yields.specs.Joins.{join_i, join_r}
-use Rattle.graph.specs.Assembly.{Gate, IC, Env, gate_outputs, gate_of, up_from, named}
+use Rattle.graph.specs.Assembly.{IC, Env, gate_outputs, gate_of, up_from, named}
 use Rattle.graph.specs.Translation.{join_names}
 use Rattle.maker_laid.specs.Encode.{encode}
 use Rattle.maker_laid.specs.Laid.{Laid}

@@ -1,18 +1,18 @@
 -- An if laid out (graph/specs/Translation: arm; theory_yields/specs/Choice: one shape for expressions and bodies): which names its parts share, and the order
 -- in which its parts are written. Document 01, "The graph": "Any if puts a T gate on each free name of arm b and an F gate on each of arm c".
 -- Assumes of the arms what an admitted formula gives.
-use Rattle.std.specs.Prelude.{ℕ, zero, suc, ◌+◌, ◌-◌, ◌*◌, ◌≤◌, ◌<◌, ◌≡◌, Bool, cond, ◌&&◌, ◌||◌, List, [], ◌∷◌, ◌++◌, map, length, get_or, eqb, ltb}
+use Rattle.std.specs.Prelude.{ℕ, ◌≤◌, ◌<◌, ◌≡◌, Bool, ◌&&◌, ◌||◌, List, [], ◌∷◌, eqb, ltb}
 use Rattle.std.proofs.Math.Path.{refl, ap, ap₂}
-use Rattle.std.proofs.Common.{sym, ◌∙◌, subst, eqb-true, eq-eqb, ne_eqb, ltb-true, ltb-false}
+use Rattle.std.proofs.Common.{sym, ◌∙◌, subst, eqb-true, ltb-true, ltb-false}
 use Rattle.std.proofs.Math.Bool.{true, false, not}
 use Rattle.std.proofs.lemmas.Bool.{false≢true, eqb-false}
 use native.Mathlib.Omega.{arith}
-use Rattle.names.specs.Names.{Names, one, union, common, without, members}
+use Rattle.names.specs.Names.{Names, common, without, members}
 use Rattle.theory_yields.specs.Naming.{Small}
-use Rattle.theory_yields.proofs.Naming.{or_left, or_right, or-false, or-true, or-neither, member-members, different-members}
+use Rattle.theory_yields.proofs.Naming.{or_left, or_right, member-members}
 use Rattle.theory_yields.specs.Choice.{choice, From, Has}
-use Rattle.theory_yields.proofs.Choice.{choice-free, Joining, arm-free, row_has, row-lacks, gone, kept, unseen}
-use Rattle.graph.specs.Assembly.{Graph, wire, nothing, beside, bind, gate, loop, Gate, T, F, Env, free, member_of, first_use, second_use, named}
+use Rattle.theory_yields.proofs.Choice.{choice-free, arm-free, row_has}
+use Rattle.graph.specs.Assembly.{Graph, nothing, bind, Gate, T, F, Env, free, member_of, first_use, second_use, named}
 use Rattle.graph.specs.Translation.{test_name, row, gated, arm}
 use Rattle.maker_laid.specs.Laid.{Laid, Copied, laid-bind}
 use Rattle.maker_laid.specs.Sharing.{copied_none, first-none, second_none}

@@ -1,6 +1,6 @@
 -- How many operators a graph has, whatever its links are (document 01, test 10: "over 1,024 operators"): the room that sequential code needs for a
 -- part before it writes it. Assumes nothing.
-use Rattle.std.specs.Prelude.{ℕ, zero, suc, ◌+◌, ◌-◌, ◌*◌, ◌≤◌, ◌<◌, ◌≡◌, refl, Bool, true, false, cond, not, ◌&&◌, ◌||◌, List, [], ◌∷◌, ◌++◌, length, get_or, drop, replicate, ltb}
+use Rattle.std.specs.Prelude.{ℕ, zero, suc, ◌+◌, ◌-◌, ◌*◌, ◌≤◌, ◌<◌, ◌≡◌, refl, Bool, true, false, ◌&&◌, List, [], ◌∷◌, ◌++◌, length, get_or, drop, replicate, ltb}
 use Rattle.std.proofs.Common.{sym, ap, ◌∙◌, length-append}
 use Rattle.std.proofs.Math.Path.{ap₂, subst}
 use Rattle.std.proofs.lemmas.List.{get_or-replicate}
@@ -8,8 +8,7 @@ use native.Mathlib.Omega.{arith}
 use Rattle.std.proofs.Math.Decide.{ℕ_discrete}
 use Rattle.names.specs.Names.{Names, common, without, size_from}
 use Rattle.names.proofs.Counts.{size_from-none}
-use Rattle.graph.specs.Assembly.{Graph, wire, nothing, beside, bind, gate, loop, Gate, IC, Env, Operator, free, member_of, total, listed, links_of, shared_links, outputs, operators_of, gate_of, sharing, first_use, second_use, named, spread, chain, chain_ends, ring, up_from, gate_outputs}
-use Rattle.graph.specs.Yields.{output_count}
+use Rattle.graph.specs.Assembly.{Graph, wire, nothing, beside, bind, gate, loop, IC, Env, Operator, free, member_of, total, listed, links_of, shared_links, outputs, operators_of, gate_of, sharing, first_use, second_use, named, spread, chain, chain_ends, ring, up_from}
 use Rattle.theory_yields.proofs.Naming.{length-up_from}
 use Rattle.graph.specs.Translation.{iterated_name, returned_name, join_names, merge_row, except_row, straight, copied}
 use Rattle.theory_yields.specs.Joins.{join_i, join_r}

@@ -1,23 +1,17 @@
 -- A part of a graph as the code has written it: for every environment that gives the 33 names the links of the array that the code was handed, the
 -- graph is laid out. Here are the forms that need no gates of their own: side by side, a let, an operator, a constant. Assumes nothing.
-use Rattle.std.specs.Prelude.{ℕ, zero, suc, ◌+◌, ◌-◌, ◌*◌, ◌≤◌, ◌<◌, ◌≡◌, refl, Bool, true, false, cond, not, ◌&&◌, ◌||◌, List, [], ◌∷◌, ◌++◌, length, get_or, take, drop, eqb, ltb}
-use Rattle.std.proofs.Common.{sym, ap, ap₂, ◌∙◌, subst, length-take-le, ltb-true, ltb-false, arith}
-use Rattle.std.proofs.lemmas.Bool.{false≢true}
-use Rattle.std.specs.Int.Bits.{bit_and, bit_or}
+use Rattle.std.specs.Prelude.{ℕ, ◌+◌, ◌*◌, ◌≤◌, ◌<◌, ◌≡◌, refl, cond, List, [], ◌∷◌, ◌++◌, length, get_or, take, eqb}
+use Rattle.std.proofs.Common.{sym, ap, ap₂, ◌∙◌, subst, arith}
 use Rattle.machine_layout.specs.Record.{placed}
-use Rattle.names.specs.Names.{Names, common, without, mask, members, size}
-use Rattle.names.proofs.Sets.{mask-cong}
-use Rattle.graph.specs.Assembly.{Graph, wire, nothing, beside, bind, gate, loop, Gate, Env, free, member_of, total, links_of, gate_outputs, gate_of, up_from, first_use, second_use, named, copies_for, listed}
+use Rattle.names.specs.Names.{Names, common, without, mask}
+use Rattle.graph.specs.Assembly.{Graph, wire, beside, bind, gate, Gate, Env, free, member_of, total, links_of, gate_outputs, gate_of, up_from, first_use, second_use, named, copies_for}
 use Rattle.graph.specs.Yields.{output_count}
-use Rattle.graph.specs.Fit.{Different}
 use Rattle.theory_yields.specs.Naming.{Small}
 use Rattle.theory_yields.proofs.Naming.{different-up_from, up_from-holds, length-up_from}
-use Rattle.theory_yields.specs.Choice.{Has}
-use Rattle.theory_yields.proofs.Choice.{unseen}
 use Rattle.maker_laid.specs.Encode.{encode, encoded, written}
 use Rattle.maker_laid.specs.Emitted.{link_in, dealt, assigned}
-use Rattle.maker_laid.specs.Masked.{list_of, Mask, list-is}
-use Rattle.maker_laid.specs.Environments.{Agrees, named-agrees, named-same, listed_small}
+use Rattle.maker_laid.specs.Masked.{list_of, list-is}
+use Rattle.maker_laid.specs.Environments.{Agrees, named-agrees, listed_small}
 use Rattle.maker_laid.specs.Laid.{Laid, Copied, laid-wire, laid-gate, laid_beside, laid-bind, listed-length}
 use Rattle.maker_laid.specs.Sharing.{copied-mask, firsts-agree, seconds-agree, arrayCopies}
 use Rattle.maker_laid.specs.Counts.{operator_count, laid-count}

@@ -1,23 +1,23 @@
 -- A loop as the code has written it: its start, its body on links of their own, the chain of copies of iter?, and the ring of FM and FS gates.
 -- Document 01, "The graph": "A for puts FM on its identifiers and FS on the body's other names, trigger included." Assumes of the body what an
 -- admitted formula gives.
-use Rattle.std.specs.Prelude.{ℕ, zero, suc, ◌+◌, ◌-◌, ◌*◌, ◌/◌, ◌%◌, ◌^◌, ◌≤◌, ◌<◌, ◌≡◌, refl, Bool, true, false, cond, not, ◌&&◌, ◌||◌, List, [], ◌∷◌, ◌++◌, length, get_or, take, drop, eqb, ltb}
+use Rattle.std.specs.Prelude.{ℕ, zero, suc, ◌+◌, ◌-◌, ◌*◌, ◌≤◌, ◌<◌, ◌≡◌, refl, Bool, true, false, List, [], ◌∷◌, length, get_or, take, drop, eqb, ltb}
 use Rattle.std.proofs.Math.Path.{sym, ap}
 use Rattle.std.proofs.Common.{ap₂, ◌∙◌, subst, get_or-take, eq-eqb, ltb-true, ltb-false, arith}
 use Rattle.std.proofs.lemmas.Bool.{false≢true}
-use Rattle.names.specs.Names.{Names, common, without, range, mask, members, size, size_from}
+use Rattle.names.specs.Names.{Names, common, without, range, mask, members, size_from, names_in}
 use Rattle.names.proofs.Counts.{size_from-cong}
-use Rattle.names.proofs.Sets.{mask-has, mask-range, known-has}
+use Rattle.names.proofs.Sets.{known-has}
 use Rattle.theory_yields.specs.Naming.{Small}
 use Rattle.theory_yields.proofs.Naming.{or_left, or_right, member-members, member-up_from, length-up_from}
 use Rattle.theory_yields.proofs.FitGraphs.{count-loop}
 use Rattle.graph.specs.Yields.{output_count}
-use Rattle.graph.specs.Assembly.{Graph, loop, Env, Operator, free, member_of, total, listed, rank, first_use, second_use, named, spread, up_from, chain, chain_ends, chain_links, ring, ring_gate}
+use Rattle.graph.specs.Assembly.{Graph, loop, Env, Operator, free, member_of, total, rank, first_use, second_use, named, spread, up_from, chain, chain_ends, chain_links, ring, ring_gate}
 use Rattle.maker_laid.specs.Encode.{encoded, written}
 use Rattle.maker_laid.specs.Emitted.{link_in, assigned}
-use Rattle.maker_laid.specs.Masked.{list_of, names_in, list-is}
+use Rattle.maker_laid.specs.Masked.{list_of, list-is}
 use Rattle.maker_laid.specs.Environments.{Agrees, listed_small}
-use Rattle.maker_laid.specs.Laid.{Laid, Copied, laid-loop, ringOf, listed-length, ends-length}
+use Rattle.maker_laid.specs.Laid.{Laid, laid-loop, ringOf, listed-length}
 use Rattle.maker_laid.specs.Done.{Done, Forked, fork-first, fork-second, fork-copied, up-agrees, named-take}
 
 -- ---- the ring

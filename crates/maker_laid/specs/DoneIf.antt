@@ -1,28 +1,28 @@
 -- An if as the code has written it: the test, the copies for the arms and of the test's output, both arms, and what joins them. One law serves
 -- expressions and bodies (theory_yields/specs/Choice). Document 01, "The graph". Assumes of the arms what an admitted formula gives.
-use Rattle.std.specs.Prelude.{ℕ, zero, suc, ◌+◌, ◌-◌, ◌*◌, ◌≤◌, ◌<◌, ◌≡◌, Bool, true, false, cond, not, ◌&&◌, ◌||◌, drop, eqb, ltb}
+use Rattle.std.specs.Prelude.{ℕ, zero, suc, ◌+◌, ◌-◌, ◌*◌, ◌≤◌, ◌<◌, ◌≡◌, Bool, true, false, cond, ◌&&◌, ◌||◌, eqb, ltb}
 use Rattle.std.proofs.Math.Path.{refl, ap, ap₂}
-use Rattle.std.proofs.Common.{sym, ◌∙◌, subst, get_or-take, length-take-le, eqb-true, eq-eqb, ne_eqb, ltb-true, ltb-false, arith}
-use Rattle.std.proofs.lemmas.Bool.{false≢true, eqb-false}
-use mathlib.Core.List.{List, [], ◌∷◌, ◌++◌, map}
+use Rattle.std.proofs.Common.{sym, ◌∙◌, subst, get_or-take, length-take-le, eq-eqb, ne_eqb, ltb-true, ltb-false, arith}
+use Rattle.std.proofs.lemmas.Bool.{false≢true}
+use mathlib.Core.List.{List, [], ◌∷◌, map}
 use Rattle.std.proofs.Math.ListN.{length, get_or, take}
 use Rattle.machine_layout.specs.Layout.{no_link}
 use Rattle.machine_layout.specs.Record.{placed}
 use Rattle.names.specs.Names.{Names, one, common, without, mask, members}
 use Rattle.theory_yields.specs.Naming.{Small, Apart}
 use Rattle.theory_yields.proofs.Naming.{or_left, or_right, member-members, different-members}
-use Rattle.theory_yields.specs.Choice.{choice, Has, From}
+use Rattle.theory_yields.specs.Choice.{choice, Has}
 use Rattle.graph.specs.Fit.{Different}
 use Rattle.graph.specs.Yields.{output_count}
-use Rattle.graph.specs.Assembly.{Graph, bind, Gate, T, F, Env, free, member_of, first_use, second_use, named}
+use Rattle.graph.specs.Assembly.{Graph, Gate, T, F, Env, free, member_of, first_use, second_use, named}
 use Rattle.graph.specs.Translation.{test_name, row, gated, arm}
-use Rattle.maker_laid.specs.Encode.{encoded, written}
+use Rattle.maker_laid.specs.Encode.{written}
 use Rattle.maker_laid.specs.Emitted.{link_in, copy_record, assigned, row_records, row_outputs}
 use Rattle.maker_laid.specs.Masked.{list_of, list-is}
-use Rattle.maker_laid.specs.Environments.{Agrees, named-agrees, named-above, named_other, named-same}
+use Rattle.maker_laid.specs.Environments.{Agrees, named-agrees, named-above, named_other}
 use Rattle.maker_laid.specs.Laid.{Laid, Copied}
 use Rattle.maker_laid.specs.Sharing.{lone-test, copied-one, first_one, second-one, first-other, second-other, copied-tested, tested-first, tested-second}
-use Rattle.maker_laid.specs.Rows.{Separate, Holds, laid-row}
+use Rattle.maker_laid.specs.Rows.{Separate, laid-row}
 use Rattle.maker_laid.specs.GateRows.{Two, two-controlled, separate-names, holds-map, holds-none}
 use Rattle.maker_laid.specs.Choices.{Parts, armsPart, lastPart, arms-share, join-shares, laid-arm, laid-choice}
 use Rattle.maker_laid.specs.Done.{Done, Forked, named-take, fork-first, fork-second, fork-copied, fork-copies}

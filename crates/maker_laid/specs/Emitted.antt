@@ -1,15 +1,13 @@
 -- What the emitters of src/ write and give, in the order in which they do it: links dealt out to the names of a list, links assigned to them, and
 -- a row of gates whose control goes through a chain of copies (document 01, "The graph": "A name, a test's output, an IC output or an "iter?"
 -- used k times, k above 1, passes k-1 two-way copies"). That these are the operators of Brock's translation is Sharing, Rows, .. below.
-use Prim.Native.Nat.{ℕ, zero, suc, ◌+◌, ◌-◌, ◌*◌, ◌≤◌, ◌<◌}
-use Rattle.std.specs.Prelude.{◌≡◌, Bool, true, false, List, [], ◌∷◌, ◌++◌, map, length, get_or, set, drop, take}
+use Prim.Native.Nat.{ℕ, zero, suc, ◌+◌, ◌-◌, ◌≤◌, ◌<◌}
+use Rattle.std.specs.Prelude.{◌≡◌, Bool, true, false, List, [], ◌∷◌, length, get_or, set, drop}
 use Rattle.std.proofs.Math.Path.{refl}
-use Rattle.std.proofs.Common.{sym, ap, ◌∙◌}
-use Rattle.std.proofs.Math.Option.{Option, none, some}
 use native.Mathlib.Omega.{arith}
 use Rattle.machine_layout.specs.Layout.{no_link}
 use Rattle.machine_layout.specs.declared.Operator.{Operator as Record}
-use Rattle.graph.specs.Assembly.{Env, Operator, copy_of, copies_for, nth, ring, ring_gate, chain, chain_ends}
+use Rattle.graph.specs.Assembly.{Env, copy_of, copies_for, nth, ring, ring_gate, chain, chain_ends}
 use Rattle.names.specs.Names.{Names}
 use Rattle.maker_laid.specs.Encode.{encode, encoded}
 

@@ -1,11 +1,10 @@
 -- The operators of a graph (graph/specs/Assembly) as records of the machine's memory (machine_layout/specs/Record), and the memory with the records of a
 -- list written one after another. Document 01, "The graph": "The numbering of operators .. chosen once": an operator's number is its place in
 -- the list. Assumes nothing.
-use Rattle.std.specs.Prelude.{ℕ, zero, suc, ◌+◌, ◌≤◌, ◌<◌, ◌≡◌, refl, List, [], ◌∷◌, ◌++◌, map, length, get_or, set}
-use Rattle.std.proofs.Common.{sym, ap, ◌∙◌, length-set, arith, add-zero}
+use Rattle.std.specs.Prelude.{ℕ, suc, ◌+◌, ◌≡◌, refl, List, [], ◌∷◌, ◌++◌, map, length, set}
+use Rattle.std.proofs.Common.{sym, ap, ◌∙◌, length-set, arith}
 use Rattle.std.proofs.Math.Option.{Option, none, some}
 use Rattle.std.proofs.lemmas.List.Edits.{sets}
-use Rattle.value.specs.declared.Value.{Value}
 use Rattle.value.specs.Bytes.{word_of, word_bytes, stored}
 use Rattle.network.specs.Rules.{Register}
 use Rattle.machine_layout.specs.Layout.{no_link, operator_at, register_at}

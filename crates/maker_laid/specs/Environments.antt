@@ -1,21 +1,21 @@
 -- Arrays of links for the 33 names, and the environments of the assembly language (graph/specs/Assembly): where names are shared, bound to a list,
 -- or numbered in a row, the arrays that the code makes give each of the 33 names the link that Assembly gives it. Assumes nothing.
-use Prim.Native.Nat.{ℕ, zero, suc, ◌+◌, ◌-◌, ◌*◌, ◌≤◌, ◌<◌}
-use Rattle.std.specs.Prelude.{◌≡◌, refl, Bool, cond, not, ◌&&◌, ◌||◌, length, set, eqb}
+use Prim.Native.Nat.{ℕ, zero, suc, ◌+◌, ◌*◌, ◌≤◌, ◌<◌}
+use Rattle.std.specs.Prelude.{◌≡◌, refl, Bool, cond, ◌&&◌, length, set, eqb}
 use Rattle.std.proofs.Math.Path.{sym, ap, ap₂}
-use Rattle.std.proofs.Common.{◌∙◌, length-set, get_or-set_same, eqb-true, eq-eqb, ne_eqb}
+use Rattle.std.proofs.Common.{◌∙◌, length-set, get_or-set_same, eqb-true, eq-eqb}
 use Rattle.std.proofs.Math.Bool.{true, false}
-use Rattle.std.proofs.lemmas.Bool.{false≢true, eqb-false}
-use mathlib.Core.List.{List, [], ◌∷◌, ◌++◌}
+use Rattle.std.proofs.lemmas.Bool.{eqb-false}
+use mathlib.Core.List.{List, [], ◌∷◌}
 use Rattle.std.proofs.Math.ListN.{get_or}
 use Rattle.std.proofs.Math.Seq.{get_or-set_other}
 use native.Mathlib.Omega.{arith}
-use Rattle.names.specs.Names.{Names, common, mask, members, size_from, members_from, later, put, bit}
+use Rattle.names.specs.Names.{Names, common, members, size_from, members_from, later, put, bit}
 use Rattle.names.proofs.Walk.{members_from-none}
 use Rattle.theory_yields.specs.Naming.{Small}
 use Rattle.theory_yields.proofs.Naming.{or-neither, or_left, or_right}
 use Rattle.graph.specs.Fit.{Different}
-use Rattle.graph.specs.Assembly.{Env, member_of, name_count, rank, listed, first_use, second_use, named, spread}
+use Rattle.graph.specs.Assembly.{Env, member_of, rank, listed, first_use, second_use, named}
 use Rattle.maker_laid.specs.Emitted.{link_in, dealt, dealt-none, dealt-more, assigned}
 
 -- An environment gives each of the 33 names the link that an array gives it.

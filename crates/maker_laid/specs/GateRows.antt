@@ -1,26 +1,26 @@
 -- The rows of the translation (graph/specs/Translation): T and F gates on names, M and E gates on results, results that pass straight, and copies of
 -- one link. Each is laid out by what the emitters of src/ write. Document 01, "The graph". Assumes nothing.
-use Rattle.std.specs.Prelude.{ℕ, zero, suc, ◌+◌, ◌-◌, ◌*◌, ◌≤◌, ◌<◌, ◌≡◌, refl, Bool, true, cond, not, ◌&&◌, ◌||◌, length, get_or, take, drop}
-use Rattle.std.proofs.Common.{sym, ap, ap₂, ◌∙◌, get_or-take, get_or-drop, drop-drop, arith}
+use Rattle.std.specs.Prelude.{ℕ, zero, suc, ◌+◌, ◌-◌, ◌*◌, ◌≤◌, ◌<◌, ◌≡◌, refl, Bool, true, cond, ◌&&◌, ◌||◌, length, get_or, take, drop}
+use Rattle.std.proofs.Common.{sym, ap, ◌∙◌, get_or-take, get_or-drop, drop-drop, arith}
 use Rattle.std.proofs.Math.Path.{subst}
 use Rattle.std.proofs.Math.Bool.{false}
 use Rattle.std.proofs.lemmas.Bool.{false≢true}
-use mathlib.Core.List.{List, [], ◌∷◌, ◌++◌, map, append-nil}
+use mathlib.Core.List.{List, [], ◌∷◌, ◌++◌, map}
 use Rattle.std.proofs.Math.Dec.{eqb}
 use borrow.Author.Tests.{eqb-true, eqb-false, eq-eqb, ne_eqb}
 use Rattle.machine_layout.specs.Layout.{no_link}
 use Rattle.machine_layout.specs.Record.{placed}
 use Rattle.names.specs.Names.{Names, one}
-use Rattle.theory_yields.proofs.Naming.{or_left, or_right, or-false, or-neither, or-true, up_from-holds, length-up_from}
-use Rattle.theory_yields.proofs.Choice.{row-lacks, row_has}
+use Rattle.theory_yields.proofs.Naming.{or-neither, up_from-holds}
+use Rattle.theory_yields.proofs.Choice.{row-lacks}
 use Rattle.graph.specs.Fit.{Different}
-use Rattle.graph.specs.Assembly.{Graph, wire, nothing, beside, bind, gate, loop, Gate, T, F, M, E, Env, free, member_of, gate_outputs, gate_of, nth, up_from, first_use, second_use, named, chain, chain_ends}
-use Rattle.graph.specs.Translation.{test_name, row, gated, merged, excepted, merge_row, except_row, straight, copied}
+use Rattle.graph.specs.Assembly.{wire, nothing, beside, gate, Gate, T, F, M, E, Env, free, member_of, gate_outputs, gate_of, nth, up_from, first_use, second_use, named, chain, chain_ends}
+use Rattle.graph.specs.Translation.{row}
 use Rattle.maker_laid.specs.Encode.{encode, encoded, written, written_none, written-more}
-use Rattle.maker_laid.specs.Emitted.{link_in, copy_record, gate_record, row_records, row_outputs, copy-encoded, chain_more, chain-few, ends_more, ends_last, ends-none}
+use Rattle.maker_laid.specs.Emitted.{copy_record, gate_record, chain_more, chain-few, ends_more, ends_last, ends-none}
 use Rattle.maker_laid.specs.Laid.{Laid, laid-wire, laid-nothing, laid-gate, laid_beside}
 use Rattle.maker_laid.specs.Sharing.{Lone, copied-one, first_one, second-one}
-use Rattle.maker_laid.specs.Rows.{Controlled, Separate, Holds, laid-row, laid-apart, two-wires, three-wires}
+use Rattle.maker_laid.specs.Rows.{Controlled, Separate, Holds, laid-apart, two-wires, three-wires}
 
 -- ---- gates with a control and one or two data
 

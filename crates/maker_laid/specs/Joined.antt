@@ -2,30 +2,29 @@
 -- "The graph": "A body if joins these by one IC gate. Its iterated results join by M on the second IC output where both arms iterate, else pass
 -- straight. Its returned results .. join by M on the third output where both arms return, by E where one does; where neither does, each is a
 -- copy of that third output." The parts share no name. Assumes widths of at most 16.
-use Prim.Native.Nat.{ℕ, zero, suc, ◌+◌, ◌-◌, ◌*◌, ◌≤◌, ◌<◌}
-use Rattle.std.specs.Prelude.{◌≡◌, cond, not, ◌&&◌, ◌||◌, List, [], ◌∷◌, ◌++◌, map, length, get_or}
+use Prim.Native.Nat.{ℕ, suc, ◌+◌, ◌-◌, ◌≤◌, ◌<◌}
+use Rattle.std.specs.Prelude.{◌≡◌, cond, not, ◌&&◌, ◌||◌, List, [], ◌∷◌, ◌++◌}
 use Rattle.std.proofs.Math.Path.{refl}
-use Rattle.std.proofs.Common.{sym, ap, ap₂, ◌∙◌, subst}
+use Rattle.std.proofs.Common.{sym, ap, ◌∙◌, subst}
 use Rattle.std.proofs.Math.Bool.{Bool, true, false}
-use Rattle.std.proofs.lemmas.Bool.{false≢true}
 use Rattle.std.proofs.Math.Dec.{eqb}
-use borrow.Author.Tests.{eqb-true, eqb-false, eq-eqb, ne_eqb}
+use borrow.Author.Tests.{eqb-true, eqb-false, ne_eqb}
 use native.Mathlib.Omega.{arith}
 use Rattle.machine_layout.specs.Layout.{no_link}
 use Rattle.machine_layout.specs.Record.{placed}
 use Rattle.machine_layout.specs.declared.Operator.{Operator as Record}
 use Rattle.theory_yields.proofs.ArmNames.{join-from}
 use Rattle.maker_laid.specs.Environments.{named_other}
-use Rattle.theory_yields.proofs.Naming.{or-false, below-up_from, above-up_from, up_from-holds, or_left, or_right}
+use Rattle.theory_yields.proofs.Naming.{or-false, below-up_from, above-up_from, up_from-holds}
 use Rattle.theory_yields.specs.Joins.{join_i, join_r}
 use Rattle.theory_yields.proofs.Joins.{merge-lacks, except-lacks, straight-lacks, copied-lacks}
-use Rattle.graph.specs.Assembly.{Graph, wire, nothing, beside, bind, gate, loop, Gate, M, E, IC, Env, free, member_of, gate_outputs, gate_of, nth, up_from, named, chain, chain_ends}
+use Rattle.graph.specs.Assembly.{Graph, wire, nothing, beside, bind, gate, IC, Env, free, member_of, gate_outputs, gate_of, nth, up_from, named}
 use Rattle.graph.specs.Translation.{test_name, iter_name, iterated_name, returned_name, join_name, join_names, joined, iterated_join, returned_join}
 use Rattle.formula.specs.Tree.{Body}
 use Rattle.formula.specs.Widths.{iterated}
 use Rattle.formula.specs.Count.{iterates, returns}
-use Rattle.maker_laid.specs.Encode.{encode, encoded, written}
-use Rattle.maker_laid.specs.Laid.{Laid, laid-wire, laid-nothing, laid-gate}
+use Rattle.maker_laid.specs.Encode.{encode}
+use Rattle.maker_laid.specs.Laid.{Laid, laid-wire, laid-gate}
 use Rattle.maker_laid.specs.Rows.{laid-apart, three-wires}
 use Rattle.maker_laid.specs.Choices.{bind-apart}
 

@@ -1,19 +1,18 @@
 -- A graph laid out in memory: its operators are written from operator m on, in an environment and with links from n on, and the next numbers are n'
 -- and m'. One law for each form of the assembly language (graph/specs/Assembly) says how a graph is laid out part by part, as sequential code
 -- does it. Document 01, "The graph": "The numbering of operators and the chaining of copies are chosen once". Assumes nothing.
-use Rattle.std.specs.Prelude.{ℕ, zero, suc, ◌+◌, ◌-◌, ◌*◌, ◌≤◌, ◌<◌, ◌≡◌, refl, Bool, true, false, cond, ◌&&◌, ◌||◌, get_or, drop}
+use Rattle.std.specs.Prelude.{ℕ, zero, suc, ◌+◌, ◌-◌, ◌≡◌, refl, get_or, drop}
 use Rattle.std.proofs.Common.{sym, ap₂, ◌∙◌, length-append}
 use Rattle.std.proofs.Math.Path.{ap}
-use mathlib.Core.List.{List, [], ◌∷◌, ◌++◌, map, append-nil}
-use Rattle.std.proofs.Math.Option.{Option, none, some}
+use mathlib.Core.List.{List, [], ◌∷◌, ◌++◌}
 use Rattle.std.proofs.Math.ListN.{length}
 use native.Mathlib.Omega.{arith}
 use Rattle.machine_layout.specs.Record.{placed}
 use Rattle.machine_layout.specs.declared.Operator.{Operator as Record}
-use Rattle.names.specs.Names.{Names, without, size_from, members_from}
+use Rattle.names.specs.Names.{Names, without}
 use Rattle.names.proofs.Counts.{length-members_from}
-use Rattle.graph.specs.Assembly.{Graph, wire, nothing, beside, bind, gate, loop, Gate, Env, Operator, free, member_of, total, listed, links_of, gate_outputs, shared_links, chain_links, outputs, operators_of, gate_of, sharing, copies_for, first_use, second_use, named, spread, up_from, chain, chain_ends, ring}
-use Rattle.maker_laid.specs.Encode.{encode, encoded, written, written_none, written_one, written-append}
+use Rattle.graph.specs.Assembly.{Graph, wire, nothing, beside, bind, gate, loop, Gate, Env, Operator, free, member_of, total, listed, links_of, gate_outputs, shared_links, chain_links, outputs, operators_of, gate_of, sharing, first_use, second_use, named, spread, up_from, chain, chain_ends, ring}
+use Rattle.maker_laid.specs.Encode.{encode, encoded, written, written_one, written-append}
 
 pub record Laid (G : Graph) (n m : ℕ) (env : Env) (mem mem' outs : List ℕ) (n' m' : ℕ) : Type 0 where
   pub memory : mem' ≡ written mem m (encoded (operators_of G n env))

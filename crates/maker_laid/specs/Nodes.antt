@@ -1,27 +1,26 @@
 -- What the maker knows of an accepted sheet's rows: the tables that the reader made are right for each row as its place has it read, and each row's
 -- tree is admitted. Document 01: "Body places are d of a for, and, of a row in a body place, d of a let and b, c of an if." A row in a body
 -- place that is no let, if or iter is also read as the expression that the body returns.
-use Rattle.std.specs.Prelude.{ℕ, zero, suc, ◌+◌, ◌-◌, ◌*◌, ◌≤◌, ◌<◌, ◌≡◌, Bool, cond, not, ◌&&◌, ◌||◌, List, [], ◌∷◌, ◌++◌, length, get_or, eqb}
+use Rattle.std.specs.Prelude.{ℕ, ◌+◌, ◌-◌, ◌*◌, ◌≤◌, ◌<◌, ◌≡◌, Bool, not, ◌&&◌, ◌||◌, List, length, get_or}
 use Rattle.std.proofs.Math.Path.{refl, ap, subst}
-use Rattle.std.proofs.Common.{sym, ap₂, ◌∙◌, eq-eqb, arith}
+use Rattle.std.proofs.Common.{sym, ◌∙◌, eq-eqb, arith}
 use Rattle.std.proofs.Math.Bool.{true, false}
-use Rattle.value.specs.declared.Value.TheVariants.{Truth as TruthValue}
-use Rattle.names.specs.Names.{Names, trigger, one, union, without, range, mask}
+use Rattle.names.specs.Names.{Names, trigger, range, mask}
 use Rattle.formula.specs.declared.Shape.{Shape}
 use Rattle.formula.specs.declared.Shape.TheVariants.{Identifier, Constant, Pair, Operator, Let, If, For, Iter}
 use Rattle.formula.specs.Constants.{constant_most}
 use Rattle.formula.specs.Sheet.{shape_at, named_in}
-use Rattle.formula.specs.Tree.{Exp, identifier, constant, pair, operator, let_e, if_e, for_e, Body, ret, iter, let_b, if_b, exp_of, body_of, exp_node, body_node}
+use Rattle.formula.specs.Tree.{Exp, identifier, constant, pair, operator, let_e, if_e, for_e, ret, iter, let_b, if_b, exp_of, body_of, exp_node, body_node}
 use Rattle.formula.specs.TreeLaws.{Named, AllBetween}
 use Rattle.formula.proofs.TreeLaws.{exp-as, body-as, between-as}
-use Rattle.formula.specs.Widths.{width, returned, iterated}
+use Rattle.formula.specs.Widths.{width, returned}
 use Rattle.formula.specs.Free.{free_e, free_b}
 use Rattle.formula.specs.Admitted.{AdmittedE, AdmittedB}
-use Rattle.graph.specs.Assembly.{Graph, wire, nothing, beside, bind, gate, loop, oper, up_from, free}
-use Rattle.graph.specs.Translation.{graph_e, graph_b, constant_of, test_name, returned_name, arm_names, merge_row, joined}
+use Rattle.graph.specs.Assembly.{Graph, wire, beside, bind, gate, loop, oper, up_from}
+use Rattle.graph.specs.Translation.{graph_e, graph_b, test_name, returned_name, arm_names, merge_row, joined}
 use Rattle.meaning.proofs.WidthLaws.{let-fits, let-fits-B}
 use Rattle.theory_yields.specs.Naming.{Small}
-use Rattle.theory_yields.proofs.Naming.{or_left, or_right}
+use Rattle.theory_yields.proofs.Naming.{or_left}
 use Rattle.theory_yields.specs.Choice.{Has, choice}
 use Rattle.theory_yields.proofs.FreeNames.{free-E, free-B, small-E, small-B, body-triggered}
 use Rattle.theory_yields.specs.FitGraphs.{Returning}

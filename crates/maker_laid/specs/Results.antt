@@ -1,26 +1,25 @@
 -- The results of two arms, joined from arrays of links: by a row of M or E gates, passed straight, or copied from one link (graph/specs/Translation:
 -- merge_row, except_row, straight, copied). Document 01, "The graph". Assumes widths of at most 16.
 use Prim.Native.Nat.{ℕ, zero, suc, ◌+◌, ◌-◌, ◌*◌, ◌≤◌, ◌<◌}
-use Rattle.std.specs.Prelude.{◌≡◌, refl, Bool, cond, not, ◌&&◌, ◌||◌, List, [], ◌∷◌, ◌++◌, map, take, drop, ltb}
+use Rattle.std.specs.Prelude.{◌≡◌, refl, Bool, ◌||◌, List, ◌∷◌, map, take, drop, ltb}
 use Rattle.std.proofs.Math.Path.{sym, ap, subst}
-use Rattle.std.proofs.Common.{ap₂, ◌∙◌, get_or-drop, get_or-take}
+use Rattle.std.proofs.Common.{ap₂, ◌∙◌, get_or-take}
 use Rattle.std.proofs.Math.Bool.{true, false}
-use Rattle.std.proofs.lemmas.Bool.{false≢true}
 use Rattle.std.proofs.Math.ListN.{length, get_or}
 use Rattle.std.proofs.Math.Dec.{eqb}
-use borrow.Author.Tests.{eqb-true, eqb-false, eq-eqb, ne_eqb, lt-ltb}
+use borrow.Author.Tests.{eqb-true, ne_eqb, lt-ltb}
 use native.Mathlib.Omega.{arith}
 use Rattle.machine_layout.specs.Layout.{no_link}
-use Rattle.names.specs.Names.{Names, one}
-use Rattle.theory_yields.proofs.Naming.{or-false, or-true, length-up_from}
+use Rattle.names.specs.Names.{one}
+use Rattle.theory_yields.proofs.Naming.{or-false, length-up_from}
 use Rattle.theory_yields.specs.Joins.{join_i, join_r}
-use Rattle.graph.specs.Assembly.{Graph, wire, nothing, beside, gate, Gate, M, E, Env, up_from, chain, chain_ends}
-use Rattle.graph.specs.Translation.{iter_name, iterated_name, returned_name, join_name, row, merged, excepted, merge_row, except_row, straight, copied}
+use Rattle.graph.specs.Assembly.{Graph, wire, E, Env, up_from, chain, chain_ends}
+use Rattle.graph.specs.Translation.{iter_name, iterated_name, returned_name, row, merged, excepted, merge_row, except_row, straight, copied}
 use Rattle.maker_laid.specs.Encode.{encoded, written}
 use Rattle.maker_laid.specs.Emitted.{row_records, row_outputs, drop-cons}
 use Rattle.maker_laid.specs.Laid.{Laid, laid-nothing}
 use Rattle.maker_laid.specs.Sharing.{Lone, lone-second, lone-third}
-use Rattle.maker_laid.specs.Rows.{Separate, Holds, laid-row}
+use Rattle.maker_laid.specs.Rows.{Separate, laid-row}
 use Rattle.maker_laid.specs.GateRows.{two-controlled, three-controlled, two-E, separate-up, holds-up, holds-none, laid-straight, laid-copied}
 
 -- The names from s on have the first w links of an array.

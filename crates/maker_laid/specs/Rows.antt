@@ -1,26 +1,25 @@
 -- Rows of gates with one control, of wires and of copies (graph/specs/Translation: gated, merged, excepted, straight, copied), laid out as the code
 -- does it: each gate but the last takes its control from a copy. Document 01, "The graph": "a T gate on each free name of arm b and an F gate
 -- on each of arm c, an expression if also an M gate on each result". Assumes nothing.
-use Rattle.std.specs.Prelude.{ℕ, zero, suc, ◌+◌, ◌-◌, ◌*◌, ◌≤◌, ◌<◌, ◌≡◌, Bool, cond, not, ◌&&◌, ◌||◌, length, get_or}
+use Rattle.std.specs.Prelude.{ℕ, suc, ◌+◌, ◌-◌, ◌*◌, ◌≡◌, Bool, ◌&&◌, ◌||◌, length, get_or}
 use Rattle.std.proofs.Math.Path.{refl, sym, ap, ap₂}
 use Rattle.std.proofs.Common.{◌∙◌, subst}
 use Rattle.std.proofs.Math.Bool.{true, false}
 use Rattle.std.proofs.lemmas.Bool.{false≢true}
-use mathlib.Core.List.{List, [], ◌∷◌, ◌++◌, map, append-nil}
+use mathlib.Core.List.{List, [], ◌∷◌, ◌++◌}
 use Rattle.std.proofs.Math.Dec.{eqb}
-use borrow.Author.Tests.{eqb-true, eqb-false, eq-eqb, ne_eqb}
+use borrow.Author.Tests.{eqb-true, eq-eqb, ne_eqb}
 use native.Mathlib.Omega.{arith}
-use Rattle.machine_layout.specs.Layout.{no_link}
 use Rattle.machine_layout.specs.Record.{placed}
 use Rattle.machine_layout.specs.declared.Operator.{Operator as Record}
-use Rattle.names.specs.Names.{Names, one}
+use Rattle.names.specs.Names.{Names}
 use Rattle.theory_yields.proofs.Naming.{or_left, or_right, or-false}
 use Rattle.theory_yields.proofs.Choice.{row-lacks, row_has, unseen}
-use Rattle.graph.specs.Assembly.{Graph, wire, nothing, beside, bind, gate, loop, Gate, T, F, M, E, Env, Operator, free, member_of, gate_outputs, gate_of, nth, up_from, first_use, second_use, chain, chain_ends}
+use Rattle.graph.specs.Assembly.{Graph, wire, nothing, beside, Env, free, member_of, first_use, second_use}
 use Rattle.graph.specs.Translation.{row}
-use Rattle.maker_laid.specs.Encode.{encode, encoded, written, written_none, written_one, written-more}
-use Rattle.maker_laid.specs.Emitted.{link_in, copy_record, gate_record, row_records, row_outputs, row-none, row_last, row_more, outputs-none, outputs-last, outputs-more, copy-encoded, chain_more, chain-few, ends_more, ends_last, ends-none}
-use Rattle.maker_laid.specs.Laid.{Laid, Copied, laid-wire, laid-nothing, laid-gate, laid_beside}
+use Rattle.maker_laid.specs.Encode.{written, written_none, written_one, written-more}
+use Rattle.maker_laid.specs.Emitted.{copy_record, gate_record, row_records, row_outputs, row-none, row_last, row_more, outputs-none, outputs-last, outputs-more}
+use Rattle.maker_laid.specs.Laid.{Laid, laid-wire, laid-nothing, laid_beside}
 use Rattle.maker_laid.specs.Sharing.{copied_none, first-none, second_none, Lone, copied-one, first_one, second-one, first-other, second-other}
 
 -- ---- parts that share nothing

@@ -1,7 +1,7 @@
 -- The copies for the names that two parts share (graph/specs/Assembly: `sharing`), as the code writes them: none, one, those of a mask, or those of
 -- a mask and then one for a test's output, which stands behind the 33 names. Assumes nothing.
-use Prim.Native.Nat.{ℕ, zero, suc, ◌+◌, ◌-◌, ◌*◌, ◌≤◌, ◌<◌}
-use Rattle.std.specs.Prelude.{◌≡◌, Bool, false, not, ◌&&◌, ◌||◌, get_or, ltb}
+use Prim.Native.Nat.{ℕ, zero, suc, ◌+◌, ◌*◌, ◌<◌}
+use Rattle.std.specs.Prelude.{◌≡◌, Bool, false, ◌&&◌, ◌||◌, get_or}
 use Rattle.std.proofs.Math.Path.{refl, sym, ap, ap₂, fun_ext}
 use Rattle.std.proofs.Common.{◌∙◌, length-append}
 use Rattle.std.proofs.Math.Bool.{true, cond}
@@ -9,23 +9,21 @@ use Rattle.std.proofs.lemmas.Bool.{false≢true}
 use mathlib.Core.List.{List, [], ◌∷◌, ◌++◌}
 use Rattle.std.proofs.Math.ListN.{length}
 use Rattle.std.proofs.Math.Dec.{eqb}
-use borrow.Author.Tests.{eqb-true, eqb-false, eq-eqb, ne_eqb, ltb-true, ltb-false}
+use borrow.Author.Tests.{eqb-true, eq-eqb, ne_eqb}
 use native.Mathlib.Omega.{arith}
 use Rattle.machine_layout.specs.Record.{placed}
-use Rattle.machine_layout.specs.declared.Operator.{Operator as Record}
-use Rattle.names.specs.Names.{Names, one, union, common, mask, size, members, size_from, members_from, later, put, bit}
-use Rattle.names.proofs.Counts.{size_from-cong, members_from-cong, length-members_from, size_from-none}
+use Rattle.names.specs.Names.{Names, one, common, mask, members, size_from, members_from, later, put}
+use Rattle.names.proofs.Counts.{members_from-cong, length-members_from}
 use Rattle.names.proofs.Walk.{members_from-none}
-use Rattle.names.proofs.Sets.{members-cong, length-members}
 use Rattle.theory_yields.specs.Naming.{Small}
-use Rattle.theory_yields.proofs.Naming.{or-neither, or-true, or_left, or_right, or-false}
-use Rattle.graph.specs.Assembly.{Env, Operator, member_of, rank, total, listed, shared_links, first_use, second_use, sharing, copies_for, copy_of, nth}
+use Rattle.theory_yields.proofs.Naming.{or_left, or_right}
+use Rattle.graph.specs.Assembly.{Env, Operator, member_of, rank, total, listed, shared_links, first_use, second_use, sharing, copies_for, copy_of}
 use Rattle.graph.specs.Translation.{test_name}
 use Rattle.maker_laid.specs.Encode.{encode, encoded, written, written_one}
 use Rattle.maker_laid.specs.Masked.{list_of, list-is}
 use Rattle.maker_laid.specs.Emitted.{link_in, dealt, copy_record, copy-encoded}
 use Rattle.maker_laid.specs.Environments.{Agrees, listed_small, first-agrees, second-agrees}
-use Rattle.maker_laid.specs.Laid.{Copied, in_order, next-number, listed-length}
+use Rattle.maker_laid.specs.Laid.{Copied, in_order, listed-length}
 
 -- ---- which copies
 

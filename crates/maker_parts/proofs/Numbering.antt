@@ -1,6 +1,7 @@
 -- The turns of the loop that numbers the names of a mask (src/lib: numbered).
-use Prim.Native.Nat.{ℕ, suc, ◌+◌, ◌-◌, ◌*◌, ◌/◌, ◌%◌, ◌^◌, ◌≤◌, ◌<◌}
-use mathlib.Core.Path.{◌≡◌, sym, ap, ◌∙◌}
+use Prim.Native.Nat.{ℕ, suc, ◌+◌, ◌/◌, ◌%◌, ◌^◌, ◌≤◌, ◌<◌}
+use mir.Val.{bool_byte}
+use mathlib.Core.Path.{◌≡◌, refl, sym, ap, ◌∙◌}
 use mathlib.Core.Bool.{Bool, true, false}
 use mathlib.Core.List.{List}
 use lib.ListN.{length, get_or, set}
@@ -8,9 +9,8 @@ use lib.Seq.{get_or-set_same, get_or-set_other}
 use lib.Dec.{eqb}
 use native.Mathlib.Omega.{arith}
 use native.Mathlib.Decide.{ℕ_discrete}
-use Rattle.names.specs.Names.{bit, size_from}
+use Rattle.names.specs.Names.{bit, size_from, names_in}
 use Rattle.names.proofs.Counts.{size_from-suc}
-use Rattle.maker_laid.specs.Masked.{names_in}
 
 -- the places below i have their links
 abbrev pub NumberedTo : ℕ → ℕ → ℕ → List ℕ → Type 0
@@ -30,6 +30,11 @@ count_turn i k n l b p q =
     let s : size_from (suc i) (names_in k) ≡ size_from i (names_in k) + bit (names_in k i) = size_from-suc i (names_in k) in
     let d : bit b ≡ bit (names_in k i) = ap bit q in
     rw z (omega (arith, s, d))
+
+-- what usize::from gives for a test
+pub byte-bit : (b : Bool) → bool_byte b ≡ bit b
+byte-bit true = refl
+byte-bit false = refl
 
 pub one_more : (n i l : ℕ) (b : Bool) → l ≤ n + i → l + bit b ≤ n + (i + 1)
 one_more n i l true h = omega arith

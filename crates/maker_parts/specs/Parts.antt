@@ -1,20 +1,20 @@
 -- What the functions of src/lib write and give: one record a function, whose fields are what the laws of maker_laid (Done, DoneIf, DoneFor) ask for.
 -- Document 01, "The graph". Assumes nothing.
-use Rattle.std.specs.Prelude.{ℕ, zero, suc, ◌+◌, ◌-◌, ◌*◌, ◌^◌, ◌≤◌, ◌<◌, ◌≡◌, refl, Bool, true, false, cond, ◌&&◌, List, [], ◌∷◌, map, length, get_or, take, drop, ltb}
+use Rattle.std.specs.Prelude.{ℕ, zero, suc, ◌+◌, ◌-◌, ◌*◌, ◌^◌, ◌≤◌, ◌<◌, ◌≡◌, refl, Bool, true, false, cond, List, [], ◌∷◌, map, length, get_or, take, drop, ltb}
 use Rattle.std.proofs.Common.{sym, ap, ap₂, ◌∙◌, subst, arith}
 use Rattle.value.specs.declared.Value.{Value}
 use Rattle.value.specs.Bytes.{word_of}
 use Rattle.machine_layout.specs.Layout.{most_operators, most_links, no_link}
 use Rattle.machine_layout.specs.Record.{placed}
 use Rattle.machine_layout.specs.declared.Operator.{Operator as Record}
-use Rattle.names.specs.Names.{Names, mask, size_from}
+use Rattle.names.specs.Names.{Names, mask, size_from, names_in}
 use Rattle.theory_yields.specs.Naming.{Small}
 use Rattle.theory_yields.specs.Choice.{Has}
 use Rattle.graph.specs.Assembly.{Graph, wire, gate, Gate, const, oper, T, F, Env, gate_outputs, gate_of, nth, up_from, chain, chain_ends, ring}
 use Rattle.graph.specs.Translation.{constant_of, test_name, iterated_name, returned_name, merge_row}
 use Rattle.maker_laid.specs.Encode.{encode, encoded, written}
 use Rattle.maker_laid.specs.Emitted.{link_in, assigned, row_records, row_outputs, gate_record}
-use Rattle.maker_laid.specs.Masked.{list_of, names_in}
+use Rattle.maker_laid.specs.Masked.{list_of}
 use Rattle.maker_laid.specs.Counts.{operator_count}
 use Rattle.maker_laid.specs.Laid.{Laid}
 use Rattle.maker_laid.specs.GateRows.{Two, two-T, two-F}
@@ -170,29 +170,29 @@ merge-gives x y z test n m mem mem' outs h hm ho eo ec el em = (
 -- what results_of gives of a part of a body
 abbrev pub ArmOf : Emitted → Arm → Type 0
 ArmOf x a =
-    (a.iter ≡ get_or x.outs 0 0) × (a.i ≡ x.iterated) × (take x.iterated a.iterated ≡ take x.iterated (drop 1 x.outs)) × (a.r ≡ back_of x)
-    × (take (back_of x) a.returned ≡ take (back_of x) (drop (1 + x.iterated) x.outs))
+    (a.iter ≡ get_or x.outs 0 0) × (a.iterated.len ≡ x.iterated) × (take x.iterated a.iterated.at ≡ take x.iterated (drop 1 x.outs)) × (a.returned.len ≡ back_of x)
+    × (take (back_of x) a.returned.at ≡ take (back_of x) (drop (1 + x.iterated) x.outs))
 
-arm-has : (ε : Env) (side : Bool) (x : Emitted) (a : Arm) → ArmOf x a → ArmHas ε side x → ArmLinks ε side a.iter a.iterated a.i a.returned a.r
+arm-has : (ε : Env) (side : Bool) (x : Emitted) (a : Arm) → ArmOf x a → ArmHas ε side x → ArmLinks ε side a.iter a.iterated.at a.iterated.len a.returned.at a.returned.len
 arm-has ε side x a o h =
     record {
       iter? = h.iter? ∙ sym o.0;
       iterated =
-          subst (λ (k : ℕ). Reads ε (iterated_name side) k a.iterated) (sym o.1)
-          (reads_same ε (iterated_name side) x.iterated a.iterated (drop 1 x.outs) o.2 h.iterated);
+          subst (λ (k : ℕ). Reads ε (iterated_name side) k a.iterated.at) (sym o.1)
+          (reads_same ε (iterated_name side) x.iterated a.iterated.at (drop 1 x.outs) o.2 h.iterated);
       returned =
-          subst (λ (k : ℕ). Reads ε (returned_name side) k a.returned) (sym o.3)
-          (reads_same ε (returned_name side) (back_of x) a.returned (drop (1 + x.iterated) x.outs) o.4 h.returned);
+          subst (λ (k : ℕ). Reads ε (returned_name side) k a.returned.at) (sym o.3)
+          (reads_same ε (returned_name side) (back_of x) a.returned.at (drop (1 + x.iterated) x.outs) o.4 h.returned);
     }
 
 same-join : (w : ℕ) (x y : Emitted) (a b : Arm) → ArmOf x a → ArmOf y b
-    → join_graph (ltb 0 a.i) (ltb 0 b.i) (ltb 0 a.r) (ltb 0 b.r) a.i b.i w ≡ join_of w x y
+    → join_graph (ltb 0 a.iterated.len) (ltb 0 b.iterated.len) (ltb 0 a.returned.len) (ltb 0 b.returned.len) a.iterated.len b.iterated.len w ≡ join_of w x y
 same-join w x y a b o p i =
     join_graph (ltb 0 (o.1 i)) (ltb 0 (p.1 i)) (ltb 0 (o.3 i)) (ltb 0 (p.3 i)) (o.1 i) (p.1 i) w
 
 pub body-needs : (w n m : ℕ) (x y : Emitted) (a b : Arm) → BodyArms w n m x y → ArmOf x a → ArmOf y b
-    → ((1 ≤ w) × (w ≤ 16)) × ((a.i ≤ 16) × (b.i ≤ 16)) × (0 < a.i → 0 < b.i → a.i ≡ b.i) × (0 < a.r → a.r ≡ w) × (0 < b.r → b.r ≡ w)
-    × (m + operator_count (join_graph (ltb 0 a.i) (ltb 0 b.i) (ltb 0 a.r) (ltb 0 b.r) a.i b.i w) ≤ most_operators) × (n ≤ most_links)
+    → ((1 ≤ w) × (w ≤ 16)) × ((a.iterated.len ≤ 16) × (b.iterated.len ≤ 16)) × (0 < a.iterated.len → 0 < b.iterated.len → a.iterated.len ≡ b.iterated.len) × (0 < a.returned.len → a.returned.len ≡ w) × (0 < b.returned.len → b.returned.len ≡ w)
+    × (m + operator_count (join_graph (ltb 0 a.iterated.len) (ltb 0 b.iterated.len) (ltb 0 a.returned.len) (ltb 0 b.returned.len) a.iterated.len b.iterated.len w) ≤ most_operators) × (n ≤ most_links)
 body-needs w n m x y a b h o p = (
   h.width,
   (rw o.1 h.narrow.0, rw p.1 h.narrow.1),
@@ -203,10 +203,10 @@ body-needs w n m x y a b h o p = (
   (let z : n + 3 * operator_count (join_of w x y) ≤ most_links = h.room.1 in omega arith),
 )
 
-pub body-gives : (w test n m : ℕ) (x y z : Emitted) (a b : Arm) (mem mem' : List ℕ) → ArmOf x a → ArmOf y b → z.iterated ≡ cond (ltb 0 a.i) a.i b.i
+pub body-gives : (w test n m : ℕ) (x y z : Emitted) (a b : Arm) (mem mem' : List ℕ) → ArmOf x a → ArmOf y b → z.iterated ≡ cond (ltb 0 a.iterated.len) a.iterated.len b.iterated.len
     → z.count ≡ 1 + z.iterated + w
-    → ((ε : Env) → ε test_name ≡ test → ArmLinks ε true a.iter a.iterated a.i a.returned a.r → ArmLinks ε false b.iter b.iterated b.i b.returned b.r
-    → Laid (join_graph (ltb 0 a.i) (ltb 0 b.i) (ltb 0 a.r) (ltb 0 b.r) a.i b.i w) n m ε mem mem' (take z.count z.outs) z.next.link z.next.operator)
+    → ((ε : Env) → ε test_name ≡ test → ArmLinks ε true a.iter a.iterated.at a.iterated.len a.returned.at a.returned.len → ArmLinks ε false b.iter b.iterated.at b.iterated.len b.returned.at b.returned.len
+    → Laid (join_graph (ltb 0 a.iterated.len) (ltb 0 b.iterated.len) (ltb 0 a.returned.len) (ltb 0 b.returned.len) a.iterated.len b.iterated.len w) n m ε mem mem' (take z.count z.outs) z.next.link z.next.operator)
     → JoinGives true w test n m mem mem' x y z
 body-gives w test n m x y z a b mem mem' o p ei ec l = (
   ei ∙ ap₂ (λ (i j : ℕ). cond (ltb 0 i) i j) o.1 p.1,

@@ -1,7 +1,7 @@
 -- The room that a part needs before it is written: operators up to 1,024 and links up to 3,105 (document 01, test 10: "over 1,024 operators").
 -- An operator has at most three links, so one count bounds both. Assumes nothing.
-use Rattle.std.specs.Prelude.{ℕ, ◌+◌, ◌-◌, ◌*◌, ◌≤◌, ◌<◌, ◌≡◌, refl, true, false, List, length}
-use Rattle.std.proofs.Common.{ap, ap₂, ◌∙◌, arith}
+use Rattle.std.specs.Prelude.{ℕ, ◌+◌, ◌-◌, ◌*◌, ◌≤◌, ◌≡◌, refl, true, false, List, length}
+use Rattle.std.proofs.Common.{ap, ap₂, arith}
 use Rattle.machine_layout.specs.Layout.{most_operators, most_links}
 use Rattle.names.specs.Names.{common, without}
 use Rattle.graph.specs.Assembly.{Graph, wire, nothing, beside, bind, gate, loop, Gate, const, oper, T, F, M, E, IC, free, member_of, total, links_of, shared_links, gate_outputs}

@@ -3,14 +3,13 @@
 // gates, the joins of an if, the ring of a loop (document 01, "The graph"). Each writes from the next
 // numbers on and gives those behind it.
 ghost use Rattle.std.specs.Prelude.{◌≡◌, ℕ, ◌+◌, ◌*◌, ◌-◌, ◌^◌, ◌≤◌, ◌<◌, false, List, length};
-ghost use Rattle.names.specs.Names.{bit};
-ghost use Rattle.machine_layout.specs.Layout.{most_operators, most_links, links_at, no_link};
+ghost use Rattle.machine_layout.specs.Layout.{most_operators, most_links, links_at};
 ghost use Rattle.graph.specs.Assembly.{wire};
 ghost use Rattle.graph.specs.Translation.{constant_of};
 ghost use Rattle.maker_laid.specs.Masked.{list_of, Mask};
 ghost use Rattle.maker_laid.specs.Done.{Forked};
 ghost use Rattle.maker_parts.specs.Room.{Room};
-ghost use Rattle.maker_parts.specs.Parts.{Gives, Applied, Gated, second_of, side_kind, JoinNeeds, JoinGives, Numbered, Closed};
+ghost use Rattle.maker_parts.specs.Parts.{Gives, Applied, Gated, side_kind, JoinNeeds, JoinGives, Numbered, Closed};
 
 use machine_layout::{CONSTANT, F, M, NO_LINK, Operator, T, store_operator};
 use maker_emit::emit::{ring_gates, share, spread};
@@ -117,18 +116,6 @@ pub fn constant(mem: &mut [u8], v: Value, env: [u16; 33], next: Next) -> Emitted
     }
 }
 
-// The second operand's link, or none.
-fn second_of(x: Emitted) -> u16
-    requires { x.count ≤ 33 }
-    ensures { result ≡ second_of x.count x.outs }
-{
-    if 1 < x.count {
-        let outs = x.outs;
-        return outs[1];
-    }
-    NO_LINK
-}
-
 // An operator behind its operands.
 pub fn applied(mem: &mut [u8], code: u32, x: Emitted) -> Emitted
     requires { (code < 256) × ((1 ≤ x.count) × (x.count ≤ 2)) × (x.count ≤ length x.outs) × Room x.next.link x.next.operator 1 × (links_at ≤ length mem.old) }
@@ -136,7 +123,8 @@ pub fn applied(mem: &mut [u8], code: u32, x: Emitted) -> Emitted
 {
     let outs = x.outs;
     let l = x.next.link as u16;
-    let o = gate_of(code as u8, outs[0], second_of(x), NO_LINK, l);
+    let second = if 1 < x.count { outs[1] } else { NO_LINK };
+    let o = gate_of(code as u8, outs[0], second, NO_LINK, l);
     store_operator(mem, x.next.operator, o);
     let behind = Next {
         link: x.next.link + 1,
@@ -150,16 +138,6 @@ pub fn applied(mem: &mut [u8], code: u32, x: Emitted) -> Emitted
     }
 }
 
-// "Any if puts a T gate on each free name of arm b and an F gate on each of arm c"
-fn side_kind(yes: bool) -> u8
-    ensures { result ≡ side_kind yes }
-{
-    if yes {
-        return T;
-    }
-    F
-}
-
 // The links of the names behind an arm's gates, and the next numbers.
 #[derive(Clone, Copy)]
 pub struct Inside {
@@ -167,7 +145,8 @@ pub struct Inside {
     pub next: Next,
 }
 
-// An arm's gates: T or F on each name of its mask.
+// An arm's gates on the names of its mask: "Any if puts a T gate on each free name of arm b and an F gate
+// on each of arm c".
 pub fn gated(
     mem: &mut [u8],
     yes: bool,
@@ -182,7 +161,8 @@ pub fn gated(
     let k = names_in(mask);
     let links = gather(mask, env);
     let none = [NO_LINK; 33];
-    let x = gates(mem, side_kind(yes), control, links, none, k, next);
+    let kind = if yes { T } else { F };
+    let x = gates(mem, kind, control, links, none, k, next);
     let outs = x.outs;
     let inner = assign(mask, env, outs);
     let behind = x.next;
@@ -227,17 +207,6 @@ pub fn joined(
     merged(mem, test, x, y, next)
 }
 
-// The link behind one, where a name takes it.
-fn behind(l: usize, taken: bool) -> usize
-    requires { l < no_link }
-    ensures { result ≡ l + bit taken }
-{
-    if taken {
-        return l + 1;
-    }
-    l
-}
-
 // The links n, n + 1, .. for the names of a mask, rising.
 pub fn numbered(mask: u64, n: usize) -> [u16; 33]
     requires { n ≤ most_links }
@@ -245,11 +214,9 @@ pub fn numbered(mask: u64, n: usize) -> [u16; 33]
 {
     let mut e = [NO_LINK; 33];
     let mut l = n;
-    let mut i = 0;
-    while i < 33 {
-        e[i] = l as u16;
-        l = behind(l, has(mask, i as u32));
-        i += 1;
+    for (i, link) in e.iter_mut().enumerate() {
+        *link = l as u16;
+        l += usize::from(has(mask, i as u32));
     }
     e
 }

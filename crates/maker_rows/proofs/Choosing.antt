@@ -3,7 +3,7 @@
 use Prim.Native.Nat.{ℕ, ◌+◌, ◌-◌, ◌*◌, ◌≤◌, ◌<◌}
 use mathlib.Core.Path.{◌≡◌, sym, ap, ◌∙◌, subst}
 use mathlib.Core.Bool.{Bool, true, false, ◌&&◌, ◌||◌}
-use mathlib.Core.List.{List, [], ◌∷◌, ◌++◌}
+use mathlib.Core.List.{List, [], ◌∷◌}
 use lib.ListN.{length, get_or}
 use lib.Bits.{bit_and, bit_or}
 use borrow.Author.Tests.{ne_eqb}
@@ -16,7 +16,6 @@ use Rattle.formula.specs.Sheet.{shape_at}
 use Rattle.formula.specs.Tree.{if_b, exp_of, body_of, body_node}
 use Rattle.formula.proofs.TreeLaws.{body-as}
 use Rattle.formula.specs.Widths.{width, iterated}
-use Rattle.formula.specs.Count.{iterates}
 use Rattle.formula.specs.Free.{free_e}
 use Rattle.theory_yields.specs.Naming.{Small, Apart}
 use Rattle.theory_yields.proofs.Naming.{different-up_from, up_from-holds, below-up_from}
@@ -27,7 +26,7 @@ use Rattle.theory_yields.proofs.Joins.{merge-control}
 use Rattle.theory_yields.proofs.BodyWidths.{wide_enough, not-too-wide}
 use Rattle.theory_yields.proofs.ArmNames.{arm-from-test, arm-different, arms-apart, narrow, joined-lacks, joined-test}
 use Rattle.graph.specs.Fit.{Different}
-use Rattle.graph.specs.Assembly.{Graph, T, free, member_of, named}
+use Rattle.graph.specs.Assembly.{Graph, T, free, member_of}
 use Rattle.graph.specs.Translation.{graph_e, test_name, returned_name, arm}
 use Rattle.theory_wiring.proofs.ChoiceCounts.{choice-count}
 use Rattle.maker_laid.specs.Masked.{list_of, Mask, list_length}

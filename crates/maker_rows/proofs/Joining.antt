@@ -2,7 +2,7 @@
 -- Assumes of the arms what an admitted formula gives.
 use Prim.Native.Nat.{ℕ, zero, suc, ◌+◌, ◌-◌, ◌*◌, ◌≤◌, ◌<◌}
 use mathlib.Core.Path.{◌≡◌, refl, sym, ap, ap₂, ◌∙◌, subst}
-use mathlib.Core.Bool.{Bool, true, false, cond, ◌&&◌, ◌||◌, false≢true}
+use mathlib.Core.Bool.{Bool, true, false, cond, false≢true}
 use mathlib.Core.List.{List, [], ◌∷◌, ◌++◌}
 use lib.ListN.{length, get_or, take, drop}
 use lib.Dec.{ltb}
@@ -16,7 +16,7 @@ use Rattle.meaning.proofs.WidthLaws.{if-fits, if-fits-B}
 use Rattle.theory_yields.proofs.Naming.{length-up_from}
 use Rattle.theory_yields.proofs.BodyWidths.{wide_enough, not-too-wide, iterated-16, iterated-some, iterated-none, iterates-some, iterated-both, iterated-outputs, returned-outputs, returned-outputs-none, returned-outputs-le}
 use Rattle.theory_yields.specs.BodyWidths.{iterated_outputs, returned_outputs}
-use Rattle.theory_yields.proofs.ArmNames.{arm-names, length-arm-names, narrow}
+use Rattle.theory_yields.proofs.ArmNames.{arm-names, length-arm-names}
 use Rattle.theory_yields.specs.ArmNames.{iterated_names, returned_names}
 use Rattle.theory_yields.proofs.FitGraphs.{count-E, count-B}
 use Rattle.graph.specs.Yields.{output_count}

@@ -1,9 +1,9 @@
 -- What the loop of src/lib needs and gives: its start, its body on links of its own, and the ring (maker_laid/specs/DoneFor). Assumes of a row what
 -- maker_laid/specs/Nodes says of it.
-use Prim.Native.Nat.{ℕ, suc, ◌+◌, ◌-◌, ◌*◌, ◌^◌, ◌≤◌, ◌<◌}
+use Prim.Native.Nat.{ℕ, suc, ◌+◌, ◌-◌, ◌*◌, ◌^◌, ◌≤◌}
 use mathlib.Core.Path.{◌≡◌, refl, sym, ap, ◌∙◌, subst}
 use mathlib.Core.Bool.{true, false, false≢true}
-use mathlib.Core.List.{List, [], ◌∷◌, ◌++◌}
+use mathlib.Core.List.{List}
 use lib.ListN.{length, get_or}
 use lib.Bits.{bit_and}
 use native.Mathlib.Omega.{arith}
@@ -12,7 +12,7 @@ use Rattle.names.proofs.Sets.{mask-range, mask-cong}
 use Rattle.formula.specs.declared.Shape.TheVariants.{For}
 use Rattle.formula.specs.Sheet.{shape_at}
 use Rattle.formula.specs.Tree.{for_e, exp_of, body_of}
-use Rattle.formula.specs.Widths.{returned, iterated}
+use Rattle.formula.specs.Widths.{returned}
 use Rattle.formula.specs.Free.{free_e, free_b}
 use Rattle.formula.specs.Admitted.{AdmittedE}
 use Rattle.meaning.proofs.WidthLaws.{for-fits}

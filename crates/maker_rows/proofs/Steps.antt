@@ -2,8 +2,8 @@
 -- what maker_laid/specs/Nodes says of it.
 use Prim.Native.Nat.{ℕ, ◌+◌, ◌-◌, ◌*◌, ◌^◌, ◌≤◌, ◌<◌}
 use mathlib.Core.Path.{◌≡◌, refl, sym, ap, ◌∙◌, subst}
-use mathlib.Core.Bool.{Bool, true, false, cond, ◌&&◌, ◌||◌, false≢true}
-use mathlib.Core.List.{List, [], ◌∷◌, ◌++◌}
+use mathlib.Core.Bool.{Bool, true, false, cond, ◌||◌, false≢true}
+use mathlib.Core.List.{List, ◌++◌}
 use lib.ListN.{length, get_or, take}
 use lib.Bits.{bit_and}
 use native.Mathlib.Omega.{arith}

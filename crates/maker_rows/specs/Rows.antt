@@ -1,5 +1,5 @@
 -- What the functions of src/lib write and give for a row in its place (graph/specs/Translation, figure by figure). Assumes nothing.
-use Rattle.std.specs.Prelude.{ℕ, ◌+◌, ◌-◌, ◌*◌, ◌≤◌, ◌<◌, ◌≡◌, Bool, true, cond, List, length, get_or}
+use Rattle.std.specs.Prelude.{ℕ, ◌+◌, ◌-◌, ◌*◌, ◌≤◌, ◌≡◌, Bool, true, cond, List, length, get_or}
 use Rattle.value.specs.declared.Value.TheVariants.{Truth as truth-value}
 use Rattle.formula.specs.Tree.{exp_of, body_of}
 use Rattle.formula.specs.Widths.{width, iterated}

@@ -2,7 +2,7 @@
 // The rows of an accepted sheet, each written as the part of the graph that it is (document 01, "The graph"; graph/specs/Translation,
 // figure by figure). A row is read by its place: as an expression, or as a body of a loop that returns some values. The functions call
 // each other; the row number falls. `env` has the link of each name; links and operators are dealt from the next numbers on.
-ghost use Rattle.std.specs.Prelude.{◌≡◌, true, false, cond, ◌+◌, ◌*◌, ◌-◌, ◌≤◌, ◌<◌, length, get_or};
+ghost use Rattle.std.specs.Prelude.{◌≡◌, true, false, ◌+◌, ◌*◌, ◌-◌, ◌≤◌, ◌<◌, length, get_or};
 ghost use Rattle.formula.specs.declared.Shape.TheVariants.{Pair, Let, If, For};
 ghost use Rattle.formula.specs.Sheet.{shape_at};
 ghost use Rattle.formula.specs.Tree.{exp_of};
@@ -34,6 +34,14 @@ pub const EXPRESSION: Place = Place {
     returned: 0,
 };
 
+// What reading made of an accepted sheet: its fields, and the free names and the returned width of each row.
+#[derive(Clone, Copy)]
+pub struct Tables<'a> {
+    pub t: &'a [u32],
+    pub masks: &'a [u64],
+    pub widths: &'a [u8],
+}
+
 // An if: the rows of its test and of its two arms.
 #[derive(Clone, Copy)]
 pub struct Choice {
@@ -42,32 +50,20 @@ pub struct Choice {
     pub second: usize,
 }
 
-// The results that an ending body iterates: all of an iter's.
-fn again(iter: bool, count: usize) -> usize
-    ensures { result ≡ cond iter count 0 }
-{
-    if iter {
-        return count;
-    }
-    0
-}
-
 // Row r in its place.
 #[cycle(arm_ended_fors_ifs_lets_pairs_plain_row)]
 pub fn row(
-    t: &[u32],
-    masks: &[u64],
-    widths: &[u8],
+    tables: &Tables,
     place: Place,
     r: usize,
     env: [u16; 33],
     next: Next,
     mem: &mut [u8],
 ) -> Emitted
-    requires { Ready t.now masks.now widths.now place.body place.returned r × Room next.link next.operator (operator_count (graph_in place.body place.returned t.now r)) × (links_at ≤ length mem.old) }
-    ensures { Part place.body place.returned t.now r next.link next.operator env mem.old mem.new result }
+    requires { Ready tables.now.t.now tables.now.masks.now tables.now.widths.now place.body place.returned r × Room next.link next.operator (operator_count (graph_in place.body place.returned tables.now.t.now r)) × (links_at ≤ length mem.old) }
+    ensures { Part place.body place.returned tables.now.t.now r next.link next.operator env mem.old mem.new result }
 {
-    match way_at(t, r) {
+    match way_at(tables.t, r) {
         Way::Let(first, count, value, inner) => {
             let binding = Binding {
                 first,
@@ -75,7 +71,7 @@ pub fn row(
                 value,
                 inner,
             };
-            lets(t, masks, widths, place, r, binding, env, next, mem)
+            lets(tables, place, r, binding, env, next, mem)
         }
         Way::If(test, first, second) => {
             let choice = Choice {
@@ -83,21 +79,21 @@ pub fn row(
                 first,
                 second,
             };
-            ifs(t, masks, widths, place, r, choice, env, next, mem)
+            ifs(tables, place, r, choice, env, next, mem)
         }
         Way::Iter(a) => {
             if place.body {
-                let free = mask_at(masks, a);
-                return ended(t, masks, widths, true, a, free, env, next, mem);
+                let free = mask_at(tables.masks, a);
+                return ended(tables, true, a, free, env, next, mem);
             }
-            row(t, masks, widths, EXPRESSION, a, env, next, mem)
+            row(tables, EXPRESSION, a, env, next, mem)
         }
         Way::End => {
             if place.body {
-                let free = plain_mask(shape_at(t, r), r, masks);
-                return ended(t, masks, widths, false, r, free, env, next, mem);
+                let free = plain_mask(shape_at(tables.t, r), r, tables.masks);
+                return ended(tables, false, r, free, env, next, mem);
             }
-            plain(t, masks, widths, r, env, next, mem)
+            plain(tables, r, env, next, mem)
         }
     }
 }
@@ -105,9 +101,7 @@ pub fn row(
 // "true constant at iter, false at a returned expression", beside row k, whose free names are those of a mask.
 #[cycle(arm_ended_fors_ifs_lets_pairs_plain_row)]
 fn ended(
-    t: &[u32],
-    masks: &[u64],
-    widths: &[u8],
+    tables: &Tables,
     iter: bool,
     k: usize,
     free: u64,
@@ -115,14 +109,14 @@ fn ended(
     next: Next,
     mem: &mut [u8],
 ) -> Emitted
-    requires { Ready t.now masks.now widths.now false 0 k × (free ≡ mask (free_e (exp_of t.now k))) × Room next.link next.operator (operator_count (end_graph iter t.now k)) × (links_at ≤ length mem.old) }
-    ensures { Ended iter t.now k next.link next.operator env mem.old mem.new result }
+    requires { Ready tables.now.t.now tables.now.masks.now tables.now.widths.now false 0 k × (free ≡ mask (free_e (exp_of tables.now.t.now k))) × Room next.link next.operator (operator_count (end_graph iter tables.now.t.now k)) × (links_at ≤ length mem.old) }
+    ensures { Ended iter tables.now.t.now k next.link next.operator env mem.old mem.new result }
 {
     let f = fork(mem, TRIGGER_MASK & free, env, next);
     let first = f.first;
     let second = f.second;
     let c = constant(mem, Value::Truth(iter), first, f.next);
-    let x = row(t, masks, widths, EXPRESSION, k, second, c.next, mem);
+    let x = row(tables, EXPRESSION, k, second, c.next, mem);
     let cs = c.outs;
     let xs = x.outs;
     let outs = join(cs, 1, xs, x.count);
@@ -130,31 +124,23 @@ fn ended(
     Emitted {
         outs,
         count: 1 + x.count,
-        iterated: again(iter, x.count),
+        iterated: if iter { x.count } else { 0 },
         next: behind,
     }
 }
 
 // A row that is neither a let nor an if nor an iter, as an expression.
 #[cycle(arm_ended_fors_ifs_lets_pairs_plain_row)]
-fn plain(
-    t: &[u32],
-    masks: &[u64],
-    widths: &[u8],
-    r: usize,
-    env: [u16; 33],
-    next: Next,
-    mem: &mut [u8],
-) -> Emitted
-    requires { Ready t.now masks.now widths.now false 0 r × Ends t.now masks.now widths.now (shape_at t.now r) × Room next.link next.operator (operator_count (graph_in false 0 t.now r)) × (links_at ≤ length mem.old) }
-    ensures { Part false 0 t.now r next.link next.operator env mem.old mem.new result }
+fn plain(tables: &Tables, r: usize, env: [u16; 33], next: Next, mem: &mut [u8]) -> Emitted
+    requires { Ready tables.now.t.now tables.now.masks.now tables.now.widths.now false 0 r × Ends tables.now.t.now tables.now.masks.now tables.now.widths.now (shape_at tables.now.t.now r) × Room next.link next.operator (operator_count (graph_in false 0 tables.now.t.now r)) × (links_at ≤ length mem.old) }
+    ensures { Part false 0 tables.now.t.now r next.link next.operator env mem.old mem.new result }
 {
-    match shape_at(t, r) {
+    match shape_at(tables.t, r) {
         Shape::Identifier(a) => identifier(a, env, next),
         Shape::Constant(kind, a) => constant(mem, formula::constant(kind, a), env, next),
-        Shape::Pair(a, b) => pairs(t, masks, widths, r, a, b, env, next, mem),
+        Shape::Pair(a, b) => pairs(tables, r, a, b, env, next, mem),
         Shape::Operator(code, b) => {
-            let x = row(t, masks, widths, EXPRESSION, b, env, next, mem);
+            let x = row(tables, EXPRESSION, b, env, next, mem);
             applied(mem, code, x)
         }
         Shape::For(first, count, value, inner) => {
@@ -164,7 +150,7 @@ fn plain(
                 value,
                 inner,
             };
-            fors(t, masks, widths, r, binding, env, next, mem)
+            fors(tables, r, binding, env, next, mem)
         }
         Shape::Let(_, _, _, _) => identifier(0, env, next),
         Shape::If(_, _, _) => identifier(0, env, next),
@@ -175,9 +161,7 @@ fn plain(
 // A pair: both rows side by side, each with a copy of the names that both use.
 #[cycle(arm_ended_fors_ifs_lets_pairs_plain_row)]
 fn pairs(
-    t: &[u32],
-    masks: &[u64],
-    widths: &[u8],
+    tables: &Tables,
     r: usize,
     a: usize,
     b: usize,
@@ -185,14 +169,19 @@ fn pairs(
     next: Next,
     mem: &mut [u8],
 ) -> Emitted
-    requires { Ready t.now masks.now widths.now false 0 r × (shape_at t.now r ≡ Pair a b) × Room next.link next.operator (operator_count (graph_in false 0 t.now r)) × (links_at ≤ length mem.old) }
-    ensures { Part false 0 t.now r next.link next.operator env mem.old mem.new result }
+    requires { Ready tables.now.t.now tables.now.masks.now tables.now.widths.now false 0 r × (shape_at tables.now.t.now r ≡ Pair a b) × Room next.link next.operator (operator_count (graph_in false 0 tables.now.t.now r)) × (links_at ≤ length mem.old) }
+    ensures { Part false 0 tables.now.t.now r next.link next.operator env mem.old mem.new result }
 {
-    let f = fork(mem, mask_at(masks, a) & mask_at(masks, b), env, next);
+    let f = fork(
+        mem,
+        mask_at(tables.masks, a) & mask_at(tables.masks, b),
+        env,
+        next,
+    );
     let first = f.first;
     let second = f.second;
-    let x = row(t, masks, widths, EXPRESSION, a, first, f.next, mem);
-    let y = row(t, masks, widths, EXPRESSION, b, second, x.next, mem);
+    let x = row(tables, EXPRESSION, a, first, f.next, mem);
+    let y = row(tables, EXPRESSION, b, second, x.next, mem);
     let xs = x.outs;
     let ys = y.outs;
     let outs = join(xs, x.count, ys, y.count);
@@ -208,9 +197,7 @@ fn pairs(
 // A let, in its place: the bound row, then the inner row with its results for the identifiers.
 #[cycle(arm_ended_fors_ifs_lets_pairs_plain_row)]
 fn lets(
-    t: &[u32],
-    masks: &[u64],
-    widths: &[u8],
+    tables: &Tables,
     place: Place,
     r: usize,
     binding: Binding,
@@ -218,36 +205,29 @@ fn lets(
     next: Next,
     mem: &mut [u8],
 ) -> Emitted
-    requires { Ready t.now masks.now widths.now place.body place.returned r × (shape_at t.now r ≡ Let binding.first binding.count binding.value binding.inner) × Room next.link next.operator (operator_count (graph_in place.body place.returned t.now r)) × (links_at ≤ length mem.old) }
-    ensures { Part place.body place.returned t.now r next.link next.operator env mem.old mem.new result }
+    requires { Ready tables.now.t.now tables.now.masks.now tables.now.widths.now place.body place.returned r × (shape_at tables.now.t.now r ≡ Let binding.first binding.count binding.value binding.inner) × Room next.link next.operator (operator_count (graph_in place.body place.returned tables.now.t.now r)) × (links_at ≤ length mem.old) }
+    ensures { Part place.body place.returned tables.now.t.now r next.link next.operator env mem.old mem.new result }
 {
-    let value = mask_at(masks, binding.value);
-    let inner = outside(mask_at(masks, binding.inner), binding.first, binding.count);
+    let value = mask_at(tables.masks, binding.value);
+    let inner = outside(
+        mask_at(tables.masks, binding.inner),
+        binding.first,
+        binding.count,
+    );
     let f = fork(mem, value & inner, env, next);
     let first = f.first;
     let second = f.second;
-    let x = row(
-        t,
-        masks,
-        widths,
-        EXPRESSION,
-        binding.value,
-        first,
-        f.next,
-        mem,
-    );
+    let x = row(tables, EXPRESSION, binding.value, first, f.next, mem);
     let xs = x.outs;
     let bound = assign(range_mask(binding.first, binding.count), second, xs);
-    row(t, masks, widths, place, binding.inner, bound, x.next, mem)
+    row(tables, place, binding.inner, bound, x.next, mem)
 }
 
 // An arm of an if: a copy of link `from`, which has the test's output, then row k behind its gates. The
 // copy's first output is the gates' control.
 #[cycle(arm_ended_fors_ifs_lets_pairs_plain_row)]
 fn arm(
-    t: &[u32],
-    masks: &[u64],
-    widths: &[u8],
+    tables: &Tables,
     place: Place,
     yes: bool,
     k: usize,
@@ -256,8 +236,8 @@ fn arm(
     next: Next,
     mem: &mut [u8],
 ) -> Emitted
-    requires { Child t.now masks.now widths.now place.body place.returned (k + 1) k × (next.operator < most_operators) × (next.link ≤ most_links) × Room (next.link + 2) (next.operator + 1) (2 * length (list_of (get_or masks.now (k - 1) 0)) - 1 + operator_count (graph_in place.body place.returned t.now k)) × (links_at ≤ length mem.old) }
-    ensures { Branched yes place.body place.returned t.now masks.now k from next.link next.operator env mem.old mem.new result }
+    requires { Child tables.now.t.now tables.now.masks.now tables.now.widths.now place.body place.returned (k + 1) k × (next.operator < most_operators) × (next.link ≤ most_links) × Room (next.link + 2) (next.operator + 1) (2 * length (list_of (get_or tables.now.masks.now (k - 1) 0)) - 1 + operator_count (graph_in place.body place.returned tables.now.t.now k)) × (links_at ≤ length mem.old) }
+    ensures { Branched yes place.body place.returned tables.now.t.now tables.now.masks.now k from next.link next.operator env mem.old mem.new result }
 {
     let l = next.link as u16;
     store_operator(mem, next.operator, copy_of(from, l, l + 1));
@@ -265,18 +245,16 @@ fn arm(
         link: next.link + 2,
         operator: next.operator + 1,
     };
-    let g = gated(mem, yes, l, mask_at(masks, k), env, behind);
+    let g = gated(mem, yes, l, mask_at(tables.masks, k), env, behind);
     let inner = g.env;
-    row(t, masks, widths, place, k, inner, g.next, mem)
+    row(tables, place, k, inner, g.next, mem)
 }
 
 // An if, in its place: the test, the arms, and what joins them. The second arm takes the test's output from
 // the first arm's copy, and the joins take it from the second arm's.
 #[cycle(arm_ended_fors_ifs_lets_pairs_plain_row)]
 fn ifs(
-    t: &[u32],
-    masks: &[u64],
-    widths: &[u8],
+    tables: &Tables,
     place: Place,
     r: usize,
     choice: Choice,
@@ -284,25 +262,25 @@ fn ifs(
     next: Next,
     mem: &mut [u8],
 ) -> Emitted
-    requires { Ready t.now masks.now widths.now place.body place.returned r × (shape_at t.now r ≡ If choice.test choice.first choice.second) × Room next.link next.operator (operator_count (graph_in place.body place.returned t.now r)) × (links_at ≤ length mem.old) }
-    ensures { Part place.body place.returned t.now r next.link next.operator env mem.old mem.new result }
+    requires { Ready tables.now.t.now tables.now.masks.now tables.now.widths.now place.body place.returned r × (shape_at tables.now.t.now r ≡ If choice.test choice.first choice.second) × Room next.link next.operator (operator_count (graph_in place.body place.returned tables.now.t.now r)) × (links_at ≤ length mem.old) }
+    ensures { Part place.body place.returned tables.now.t.now r next.link next.operator env mem.old mem.new result }
 {
     let a = choice.test;
     let b = choice.first;
     let c = choice.second;
-    let mb = mask_at(masks, b);
-    let mc = mask_at(masks, c);
-    let f = fork(mem, mask_at(masks, a) & (mb | mc), env, next);
+    let mb = mask_at(tables.masks, b);
+    let mc = mask_at(tables.masks, c);
+    let f = fork(mem, mask_at(tables.masks, a) & (mb | mc), env, next);
     let first = f.first;
     let second = f.second;
-    let x = row(t, masks, widths, EXPRESSION, a, first, f.next, mem);
+    let x = row(tables, EXPRESSION, a, first, f.next, mem);
     let g = fork(mem, mb & mc, second, x.next);
     let yes = g.first;
     let no = g.second;
     let test = x.outs;
-    let y = arm(t, masks, widths, place, true, b, test[0], yes, g.next, mem);
+    let y = arm(tables, place, true, b, test[0], yes, g.next, mem);
     let copied = (g.next.link + 1) as u16;
-    let z = arm(t, masks, widths, place, false, c, copied, no, y.next, mem);
+    let z = arm(tables, place, false, c, copied, no, y.next, mem);
     let last = (y.next.link + 1) as u16;
     joined(mem, place, last, y, z, z.next)
 }
@@ -310,43 +288,32 @@ fn ifs(
 // A loop: the starting row, then the body on links of its own for all its names, then the ring.
 #[cycle(arm_ended_fors_ifs_lets_pairs_plain_row)]
 fn fors(
-    t: &[u32],
-    masks: &[u64],
-    widths: &[u8],
+    tables: &Tables,
     r: usize,
     binding: Binding,
     env: [u16; 33],
     next: Next,
     mem: &mut [u8],
 ) -> Emitted
-    requires { Ready t.now masks.now widths.now false 0 r × (shape_at t.now r ≡ For binding.first binding.count binding.value binding.inner) × Room next.link next.operator (operator_count (graph_in false 0 t.now r)) × (links_at ≤ length mem.old) }
-    ensures { Part false 0 t.now r next.link next.operator env mem.old mem.new result }
+    requires { Ready tables.now.t.now tables.now.masks.now tables.now.widths.now false 0 r × (shape_at tables.now.t.now r ≡ For binding.first binding.count binding.value binding.inner) × Room next.link next.operator (operator_count (graph_in false 0 tables.now.t.now r)) × (links_at ≤ length mem.old) }
+    ensures { Part false 0 tables.now.t.now r next.link next.operator env mem.old mem.new result }
 {
-    let names = mask_at(masks, binding.inner);
+    let names = mask_at(tables.masks, binding.inner);
     let k = names_in(names);
     let outer = outside(names, binding.first, binding.count);
-    let f = fork(mem, mask_at(masks, binding.value) & outer, env, next);
+    let f = fork(mem, mask_at(tables.masks, binding.value) & outer, env, next);
     let first = f.first;
     let second = f.second;
-    let x = row(
-        t,
-        masks,
-        widths,
-        EXPRESSION,
-        binding.value,
-        first,
-        f.next,
-        mem,
-    );
+    let x = row(tables, EXPRESSION, binding.value, first, f.next, mem);
     let inner = numbered(names, x.next.link);
     let place = Place {
         body: true,
-        returned: width_at(widths, binding.inner),
+        returned: width_at(tables.widths, binding.inner),
     };
     let behind = Next {
         link: x.next.link + k,
         operator: x.next.operator,
     };
-    let y = row(t, masks, widths, place, binding.inner, inner, behind, mem);
+    let y = row(tables, place, binding.inner, inner, behind, mem);
     closed(mem, names, binding, env, second, inner, x, y)
 }

@@ -1,15 +1,14 @@
 -- Document 01, "Direct evaluation is lent rounds and tells those used", "A result set is sixteen values carried whole, with
 -- its width; places past the width hold err", and the refusals of evaluation in their order: the sheet's with its kinds line (formula's specs/Tests),
 -- 12, 36. A set is lent in the byte form (value_sets' specs/Sets). Assumes nothing.
-use Rattle.std.specs.Prelude.{ℕ, ◌-◌, List, ◌++◌, map, length, replicate}
+use Rattle.std.specs.Prelude.{ℕ, ◌-◌, List, ◌++◌, map, length, replicate, Ok, Err}
 use Rattle.std.proofs.Math.Option.{Option, some, none}
 use Rattle.value.specs.declared.Value.{Value}
 use Rattle.value.specs.Senses.{err}
 use Rattle.value_sets.specs.Sets.{set_values}
 use Rattle.formula.specs.declared.Refusal.{Refusal}
 use Rattle.formula.specs.declared.Refusal.TheVariants.{Set, Unfinished}
-use Rattle.formula.specs.declared.Verdict.{Verdict}
-use Rattle.formula.specs.declared.Verdict.TheVariants.{Passed, Refused}
+use Rattle.formula.specs.Results.{Verdict, refused as refusing}
 use Rattle.formula.specs.Tree.{Exp, formula_of}
 use Rattle.formula.specs.Free.{free_e}
 use Rattle.formula.specs.Faults.{letters_of}
@@ -27,13 +26,13 @@ cells_of vs = map cell vs ++ replicate (16 - length vs) (cell err)
 
 -- "A refusal's counts and rows are 0 unless stated, its result set has width 0."
 abbrev pub refused : Refusal → ℕ → Evaluation
-refused r row = record { cells = replicate 16 (cell err); width = 0; rounds = 0; verdict = Refused r row }
+refused r row = record { cells = replicate 16 (cell err); width = 0; rounds = 0; verdict = refusing r row }
 
 -- 36 "evaluation: more rounds needed than lent"; else the rounds used are told.
 unfoldable pub concluded : ℕ → Outcome → Evaluation
 unfolding cells_of
 concluded rounds (yields vs left) =
-    record { cells = cells_of vs; width = length vs; rounds = rounds - left; verdict = Passed }
+    record { cells = cells_of vs; width = length vs; rounds = rounds - left; verdict = Ok tt }
 concluded rounds Outcome.unfinished = refused Unfinished 0
 
 abbrev pub evaluated_with : Exp → ℕ → Option (List Value) → Evaluation
@@ -46,8 +45,8 @@ unfolding set_values concluded eval_e inputs_hold free_e
 evaluated x kinds set rounds = evaluated_with x rounds (set_values kinds set)
 
 abbrev pub after_verdict : Verdict → Evaluation → Evaluation
-after_verdict Passed e = e
-after_verdict (Refused r row) e = refused r row
+after_verdict (Ok _) e = e
+after_verdict (Err why) e = refused why.refusal why.row
 
 unfoldable pub evaluation_of : List ℕ → List ℕ → List ℕ → ℕ → Evaluation
 unfolding verdict_of formula_of letters_of evaluated

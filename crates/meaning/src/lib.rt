@@ -1,7 +1,7 @@
 #![tactic(auto)]
 // What a formula means, as definitions and laws in specs/, and the answer of its direct evaluation (document 01, "Direct
 // evaluation is lent rounds and tells those used"). No function stands here.
-use formula::Verdict;
+use formula::Refused;
 use value::Value;
 
 // One place of a result set.
@@ -17,5 +17,5 @@ pub struct Evaluation {
     pub cells: [Cell; 16],
     pub width: usize,
     pub rounds: u32,
-    pub verdict: Verdict,
+    pub verdict: Result<(), Refused>,
 }

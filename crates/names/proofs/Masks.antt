@@ -9,7 +9,7 @@ use lib.Bits.{bit_and, bit_or, and_step, or_step}
 use lib.Dec.{eqb, leb, ltb, eqb-suc-suc, leb-suc-suc}
 use lib.Pow.{pow_mono, pow_pos, shr-shr, shl_exact, ones_lt}
 use borrow.Author.Tests.{ne_eqb, le-leb, lt-leb, lt-ltb, le-ltb, leb-true}
-use Rattle.names.specs.Names.{Names, none, one, union, common, without, range, later, bit, mask_from, mask}
+use Rattle.names.specs.Names.{Names, one, union, common, without, range, later, bit, mask_from}
 
 -- ---- one digit
 

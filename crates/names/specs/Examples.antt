@@ -1,6 +1,6 @@
 -- Sets of names worked out: a let that binds identifiers 2 to 4 in a row whose free names are 1, 2, 3 and the trigger.
 -- They hold the definitions in Names to document 01, "The graph". Assumes nothing.
-use Rattle.std.specs.Prelude.{ℕ, ◌+◌, ◌^◌, ◌≡◌, refl, List, [], ◌∷◌}
+use Rattle.std.specs.Prelude.{◌+◌, ◌^◌, ◌≡◌, refl, [], ◌∷◌}
 use Rattle.names.specs.Names.{Names, trigger, one, union, common, without, range, size, size_from, mask, mask_from, members, members_from, below}
 
 abbrev used : Names

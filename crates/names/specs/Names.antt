@@ -1,7 +1,7 @@
 -- Sets of names: document 01, "The graph" ("The free names of a row form a set over 33 places") and "Forms to follow"
 -- ("a u64 mask per row; the number of gates and of copies comes from its count of ones, trailing zeros walk the names").
 -- A set is a predicate on places; what it holds from place 33 on never counts. The laws are in proofs/. Assumes nothing.
-use Rattle.std.specs.Prelude.{ℕ, zero, suc, ◌+◌, ◌*◌, Bool, true, false, ◌&&◌, ◌||◌, not, List, [], ◌∷◌, eqb, leb, ltb}
+use Rattle.std.specs.Prelude.{ℕ, zero, suc, ◌+◌, ◌*◌, ◌/◌, ◌%◌, ◌^◌, Bool, true, false, ◌&&◌, ◌||◌, not, List, [], ◌∷◌, eqb, leb, ltb}
 
 abbrev pub Names : Type 0
 Names = ℕ → Bool
@@ -71,6 +71,13 @@ mask f = mask_from places f
 
 unfoldable pub members : Names → List ℕ
 members f = members_from places 0 f
+
+-- a u64 as a set: the places whose bits are set, and those among all its 64 in rising order
+unfoldable pub names_in : ℕ → Names
+names_in m i = eqb (m / 2 ^ i % 2) 1
+
+unfoldable pub members_in : ℕ → List ℕ
+members_in m = members_from 64 0 (names_in m)
 
 -- the number of members below place x: where x stands among the members
 unfoldable pub below : Names → ℕ → ℕ

@@ -5,6 +5,8 @@
 ghost use Rattle.std.specs.Prelude.{◌≡◌, ℕ, ◌+◌, ◌-◌, ◌*◌, ◌/◌, ◌%◌, ◌^◌, ◌≤◌, ◌<◌, eqb};
 ghost use Rattle.std.specs.Int.Bits.{bit_and};
 ghost use Rattle.std.specs.Int.Count.{ones, count_trailing_zeros};
+ghost use Rattle.std.specs.Iterator.{YieldsFirst, item_count};
+ghost use Rattle.names.specs.Names.{members_in};
 
 // The trigger's place, behind the 32 identifiers, and the mask of it alone.
 pub const TRIGGER: u32 = 32;
@@ -64,4 +66,31 @@ pub fn rest(m: u64) -> u64
         return 0;
     }
     m & (m - 1)
+}
+
+// The places of a mask, the lowest first.
+#[derive(Drop)]
+pub struct Rising(u64);
+
+pub fn members(m: u64) -> Rising
+    ensures { result.0 ≡ m }
+{
+    Rising(m)
+}
+
+impl Iterator for Rising {
+    type Item = usize;
+
+    ghost next_gives = { YieldsFirst (λ s. members_in s.0) };
+
+    ghost remaining = { item_count (λ s. members_in s.0) };
+
+    fn next(&mut self) -> Option<usize> {
+        if self.0 == 0 {
+            return None;
+        }
+        let place = lowest(self.0) as usize;
+        self.0 = rest(self.0);
+        Some(place)
+    }
 }

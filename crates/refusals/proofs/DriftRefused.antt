@@ -1,10 +1,9 @@
 -- Laws of specs/DriftRefused.antt, and what only they need.
-use Rattle.std.specs.Prelude.{ℕ, ◌≡◌, refl, Bool, true, false, List, [], ◌∷◌, ◌++◌}
+use Rattle.std.specs.Prelude.{ℕ, ◌≡◌, refl, Bool, true, false, List, [], ◌∷◌, ◌++◌, Ok, Err}
 use Rattle.std.proofs.Common.{ap, ◌∙◌}
 use Rattle.value.specs.Operators.{pick}
 use Rattle.formula.specs.declared.Refusal.TheVariants.{Memory}
-use Rattle.formula.specs.declared.Verdict.{Verdict}
-use Rattle.formula.specs.declared.Verdict.TheVariants.{Passed as passed, Refused as refused}
+use Rattle.formula.specs.Results.{Verdict}
 use Rattle.formula.specs.Sheet.{fields_of, row_count}
 use Rattle.formula.specs.TreeLaws.{Named as Naming-well}
 use Rattle.formula.specs.Tests.{Sheet, Test, tests, row_tests, formula_tests, kind_tests, graph_tests, sheet_of}
@@ -46,8 +45,8 @@ drift-order : (b : Bool) (v : Verdict) (s tolerances out : List ℕ) (cs : List 
     → (pick b (handed (answers 11 0 0) out) (by_verdict v s tolerances out)).answer.refusal ≡ first-refusal ((b, Memory) ∷ cs)
 unfolding by_verdict first-refusal
 drift-order true v s tolerances out cs h = refl
-drift-order false passed s tolerances out cs h = h
-drift-order false (refused r row) s tolerances out cs h = h
+drift-order false (Ok _) s tolerances out cs h = h
+drift-order false (Err why) s tolerances out cs h = h
 
 -- 11, 1 to 9, 17, 18, 10, 20, 21
 pub drift-exact : (s line tolerances out : List ℕ) → (drifted_into s line tolerances out).answer.refusal ≡ first-refusal (drift_table s line tolerances out)
@@ -77,8 +76,8 @@ drift-row s line tolerances =
 
 drift-by : (s line tolerances out : List ℕ) (v : Verdict) → VerdictRow s line v → DriftKeeps s line out (by_verdict v s tolerances out)
 unfolding by_verdict
-drift-by s line tolerances out passed e h = absurd (h refl)
-drift-by s line tolerances out (refused r row) e h = ((r, refl, e), refl, refl)
+drift-by s line tolerances out (Ok _) e h = absurd (h refl)
+drift-by s line tolerances out (Err why) e h = ((why.refusal, refl, e), refl, refl)
 
 pub drift-keeps : (s line tolerances out : List ℕ) → DriftKeeps s line out (drifted_into s line tolerances out)
 unfolding drifted_into

@@ -1,5 +1,5 @@
 -- Laws of specs/Exact.antt, and what only they need.
-use Rattle.std.specs.Prelude.{ℕ, ◌-◌, ◌≤◌, ◌≡◌, refl, Bool, true, false, not, cond, ◌&&◌, List, [], ◌∷◌, ◌++◌, leb, ltb, eqb}
+use Rattle.std.specs.Prelude.{ℕ, ◌-◌, ◌≤◌, ◌≡◌, refl, Bool, true, false, not, cond, ◌&&◌, List, [], ◌∷◌, ◌++◌, leb, ltb, eqb, Ok, Err}
 use Rattle.std.proofs.Common.{sym, ap, ◌∙◌, arith, ltb-true, ltb-false, le-leb}
 use Rattle.std.proofs.Math.Option.{Option, some, none}
 use Rattle.std.proofs.lemmas.Bool.{lt-leb}
@@ -7,10 +7,7 @@ use Rattle.value.specs.declared.Value.{Value}
 use Rattle.value.specs.Operators.{pick}
 use Rattle.formula.specs.declared.Refusal.{Refusal}
 use Rattle.formula.specs.declared.Refusal.TheVariants.{Memory, Set, Capacity, Altered, Untaken, Full, NotAble, NoResult, Unfinished}
-use Rattle.formula.specs.declared.Check.{Check}
-use Rattle.formula.specs.declared.Check.TheVariants.{Passed, Fault}
-use Rattle.formula.specs.declared.Verdict.{Verdict}
-use Rattle.formula.specs.declared.Verdict.TheVariants.{Passed as passed, Refused}
+use Rattle.formula.specs.Results.{Check, Verdict}
 use Rattle.formula.specs.declared.Figures.{Figures}
 use Rattle.formula.specs.Refusals.{number_of}
 use Rattle.formula.proofs.Refusals.{number-positive}
@@ -136,8 +133,8 @@ take_exact m out =
 -- A test, then others.
 pub check-order : (r : Refusal) (c : Check) (v : Verdict) (cs : List Row) → number_in v ≡ first-refusal cs → number_in (after_check r c v) ≡ first-refusal ((failed c, r) ∷ cs)
 unfolding after_check first-refusal
-check-order r Passed v cs h = h
-check-order r (Fault row) v cs h = refl
+check-order r (Ok _) v cs h = h
+check-order r (Err row) v cs h = refl
 
 pub first_by : (ts : List Test) (x : Sheet) → number_in (verdict_by ts x) ≡ first-refusal (table_by ts x)
 unfolding verdict_by first-refusal
@@ -160,8 +157,8 @@ sheet-exact s line = first_by (tests line) (sheet_of s) ∙ ap first-refusal (ta
 
 reads : (v : Verdict) (f : Figures) → (answer_of (answer_by v f)).refusal ≡ number_in v
 unfolding answer_by
-reads passed f = refl
-reads (Refused r row) f = refl
+reads (Ok _) f = refl
+reads (Err why) f = refl
 
 pub read-exact : (s line : List ℕ) → (answer_of (reading_of s line)).refusal ≡ first-refusal (sheet_table s line)
 unfolding reading_of
@@ -174,8 +171,8 @@ start-order : (s c : Bool) (v : Verdict) (x : Exp) (kinds : List ℕ) (capacity 
 unfolding first-refusal by_verdict
 start-order true c v x kinds capacity m cs h = refl
 start-order false false v x kinds capacity m cs h = refl
-start-order false true passed x kinds capacity m cs h = h
-start-order false true (Refused r row) x kinds capacity m cs h = h
+start-order false true (Ok _) x kinds capacity m cs h = h
+start-order false true (Err why) x kinds capacity m cs h = h
 
 -- 11, 14, then the sheet's
 pub start-exact : (sheet line : List ℕ) (capacity : ℕ) (m : List ℕ) → (started sheet line capacity m).answer.refusal ≡ first-refusal (start_table sheet line capacity m)
@@ -220,8 +217,8 @@ set-order x rounds none = refl
 
 verdict-order : (v : Verdict) (e : Evaluation) (cs ds : List Row) → number_in v ≡ first-refusal cs → number_in e.verdict ≡ first-refusal ds
     → number_in (after_verdict v e).verdict ≡ first-refusal (cs ++ ds)
-verdict-order passed e cs ds h k = k ∙ sym (behind-none cs ds (sym h))
-verdict-order (Refused r row) e cs ds h k = behind-some cs ds (number_of r) (number-positive r) h
+verdict-order (Ok _) e cs ds h k = k ∙ sym (behind-none cs ds (sym h))
+verdict-order (Err why) e cs ds h k = behind-some cs ds (number_of why.refusal) (number-positive why.refusal) h
 
 -- the sheet's, 12, 36
 pub evaluation-exact : (sheet line set : List ℕ) (rounds : ℕ)
@@ -237,8 +234,8 @@ told-order : (s : Bool) (v : Verdict) (e : Evaluation) (out : List ℕ) (cs : Li
     → (pick s (evaluate-handed (evaluate-answers 11 0 0 0) out) (told v e out)).answer.refusal ≡ first-refusal ((s, Memory) ∷ cs)
 unfolding told first-refusal
 told-order true v e out cs h = refl
-told-order false passed e out cs h = h
-told-order false (Refused r row) e out cs h = h
+told-order false (Ok _) e out cs h = h
+told-order false (Err why) e out cs h = h
 
 -- 11, the sheet's, 12, 36
 pub evaluate-exact : (sheet line set : List ℕ) (rounds : ℕ) (out : List ℕ)

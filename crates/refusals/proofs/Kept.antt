@@ -1,12 +1,11 @@
 -- Laws of specs/Kept.antt, and what only they need.
-use Rattle.std.specs.Prelude.{ℕ, zero, suc, ◌≡◌, refl, Bool, true, false, ◌&&◌, ◌⊎◌, ◌≢◌, List, leb, ltb, eqb, length}
+use Rattle.std.specs.Prelude.{ℕ, zero, suc, ◌≡◌, refl, Bool, true, false, ◌&&◌, ◌⊎◌, ◌≢◌, List, leb, ltb, eqb, length, Ok, Err}
 use Rattle.std.proofs.Common.{ap, subst, inl, inr, arith}
 use Rattle.std.proofs.Math.Option.{Option, some, none}
 use Rattle.std.proofs.Math.Decide.{ℕ_discrete}
 use Rattle.value.specs.declared.Value.{Value}
 use Rattle.formula.specs.declared.Refusal.TheVariants.{Memory, Capacity}
-use Rattle.formula.specs.declared.Verdict.{Verdict}
-use Rattle.formula.specs.declared.Verdict.TheVariants.{Passed as passed, Refused as refused}
+use Rattle.formula.specs.Results.{Verdict}
 use Rattle.formula.specs.declared.Figures.{Figures}
 use Rattle.formula.specs.Tree.{Exp, formula_of}
 use Rattle.formula.specs.Free.{free_e}
@@ -112,8 +111,8 @@ take-keeps m out =
 
 read_by : (sheet line : List ℕ) (v : Verdict) (f : Figures) → VerdictRow sheet line v → ReadKeeps sheet line (answer_of (answer_by v f))
 unfolding answer_by
-read_by sheet line passed f s h = absurd (h refl)
-read_by sheet line (refused r row) f s h = ((r, refl, s), refl, refl, refl, refl)
+read_by sheet line (Ok _) f s h = absurd (h refl)
+read_by sheet line (Err why) f s h = ((why.refusal, refl, s), refl, refl, refl, refl)
 
 pub read_keeps : (s line : List ℕ) → ReadKeeps s line (answer_of (reading_of s line))
 unfolding reading_of
@@ -121,8 +120,8 @@ read_keeps s line = read_by s line (verdict_of s line) (figures_of s) (verdict-r
 
 start-by : (sheet line : List ℕ) (v : Verdict) (x : Exp) (kinds : List ℕ) (capacity : ℕ) (m : List ℕ) → VerdictRow sheet line v → StartKeeps sheet line m (by_verdict v x kinds capacity m)
 unfolding by_verdict
-start-by sheet line passed x kinds capacity m s h = absurd (h refl)
-start-by sheet line (refused r row) x kinds capacity m s h = ((r, refl, s), refl, refl, refl, refl)
+start-by sheet line (Ok _) x kinds capacity m s h = absurd (h refl)
+start-by sheet line (Err why) x kinds capacity m s h = ((why.refusal, refl, s), refl, refl, refl, refl)
 
 pub start-keeps : (sheet line : List ℕ) (capacity : ℕ) (m : List ℕ) → StartKeeps sheet line m (started sheet line capacity m)
 unfolding started
@@ -134,8 +133,8 @@ start-keeps sheet line capacity m =
 
 told-by : (sheet line : List ℕ) (v : Verdict) (e : Evaluation) (out : List ℕ) → VerdictRow sheet line v → EvaluateKeeps sheet line out (told v e out)
 unfolding told
-told-by sheet line passed e out s h = absurd (h refl)
-told-by sheet line (refused r row) e out s h = ((r, refl, s), refl, refl, refl)
+told-by sheet line (Ok _) e out s h = absurd (h refl)
+told-by sheet line (Err why) e out s h = ((why.refusal, refl, s), refl, refl, refl)
 
 concluded-row : (sheet line : List ℕ) (rounds : ℕ) (o : Ended) → VerdictRow sheet line (concluded rounds o).verdict
 unfolding concluded
@@ -147,8 +146,8 @@ set-row sheet line x rounds (some vs) = concluded-row sheet line rounds (eval_e 
 set-row sheet line x rounds none = refl
 
 after-row : (sheet line : List ℕ) (v : Verdict) (e : Evaluation) → VerdictRow sheet line v → VerdictRow sheet line e.verdict → VerdictRow sheet line (after_verdict v e).verdict
-after-row sheet line passed e a b = b
-after-row sheet line (refused r row) e a b = a
+after-row sheet line (Ok _) e a b = b
+after-row sheet line (Err why) e a b = a
 
 evaluation-row : (sheet line set : List ℕ) (rounds : ℕ) → VerdictRow sheet line (evaluation_of sheet line set rounds).verdict
 unfolding evaluation_of evaluated

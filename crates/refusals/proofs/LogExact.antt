@@ -1,6 +1,6 @@
 -- Demand 2's last sentence for a log's check: its refusal is the first of its table. Assumes nothing.
 use Prim.Native.Nat.{ℕ}
-use Rattle.std.specs.Prelude.{◌≡◌, ◌≢◌, Bool, not, ◌&&◌, eqb, ltb, length}
+use Rattle.std.specs.Prelude.{◌≡◌, ◌≢◌, Bool, not, ◌&&◌, eqb, ltb, length, Ok, Err}
 use Rattle.std.proofs.Math.Path.{refl, sym}
 use Rattle.std.proofs.Common.{ap, subst, ◌∙◌, arith, leb-true, leb-false, lt-ltb, le-ltb}
 use Rattle.std.proofs.Math.Bool.{true, false}
@@ -9,8 +9,7 @@ use Rattle.std.proofs.Math.Dec.{leb}
 use Rattle.value.specs.Operators.{pick}
 use Rattle.formula.specs.declared.Refusal.{Refusal}
 use Rattle.formula.specs.declared.Refusal.TheVariants.{Memory, Capacity, Set, LogLine, LogRefused}
-use Rattle.formula.specs.declared.Verdict.{Verdict}
-use Rattle.formula.specs.declared.Verdict.TheVariants.{Passed as passed, Refused}
+use Rattle.formula.specs.Results.{Verdict, refused}
 use Rattle.formula.specs.Refusals.{number_of}
 use Rattle.formula.proofs.Refusals.{number-positive}
 use Rattle.formula.specs.Tree.{formula_of}
@@ -33,10 +32,10 @@ whole-order r b c e v cs h = check-order r (whole b) v cs h ∙ ap (λ (d : Bool
 
 behind-order : (v w : Verdict) (cs ds : List Row) → number_in v ≡ first-refusal cs → number_in w ≡ first-refusal ds → number_in (behind v w) ≡ first-refusal (cs ++ ds)
 unfolding behind
-behind-order passed w cs ds h k = k ∙ sym (behind-none cs ds (sym h))
-behind-order (Refused r row) w cs ds h k = behind-some cs ds (number_of r) (number-positive r) h
+behind-order (Ok _) w cs ds h k = k ∙ sym (behind-none cs ds (sym h))
+behind-order (Err why) w cs ds h k = behind-some cs ds (number_of why.refusal) (number-positive why.refusal) h
 
-none-order : number_in passed ≡ first-refusal []
+none-order : number_in (Ok tt) ≡ first-refusal []
 unfolding first-refusal
 none-order = refl
 
@@ -65,10 +64,10 @@ module _ (sheet line : List ℕ) (capacity : ℕ) (sets : List ℕ) (number : �
       (whole-order Capacity (leb 1 capacity && leb capacity 16) _ refl _ _
       (behind-order (verdict_of sheet line) _ (sheet_table sheet line) _ (sheet-exact sheet line)
       (whole-order Set (all_sets kinds (set_list kinds sets number)) _ refl _ _
-      (check-order LogLine (log_check number log) passed [] none-order)))))
+      (check-order LogLine (log_check number log) (Ok tt) [] none-order)))))
 
   -- None of these is 16.
-  pub not-yet-refused : (r : Refusal) (row : ℕ) → opening sheet line capacity sets number log (length m) (length out) ≡ Refused r row → number_of r ≢ number_of LogRefused
+  pub not-yet-refused : (r : Refusal) (row : ℕ) → opening sheet line capacity sets number log (length m) (length out) ≡ refused r row → number_of r ≢ number_of LogRefused
   not-yet-refused r row e h =
       let i : first-refusal openTable ≡ number_of LogRefused = sym open-exact ∙ ap number_in e ∙ h in
       not-among 16 (numbers openTable) refl (subst (λ (n : ℕ). Among n (numbers openTable)) i (first-among openTable (λ z. omega (arith, i))))
@@ -81,8 +80,8 @@ module _ (sheet line : List ℕ) (capacity : ℕ) (sets : List ℕ) (number : �
   open_order : (v : Verdict) (f : Followed) (w : ℕ) (cs : List Row) → number_in v ≡ first-refusal cs
       → (by_opening v f w m out).answer.refusal ≡ first-refusal (cs ++ ((not (eqb f.line 0), LogRefused) ∷ []))
   unfolding by_opening told
-  open_order passed f w cs h = told-order (eqb f.line 0) ∙ sym (behind-none cs _ (sym h))
-  open_order (Refused r row) f w cs h = behind-some cs _ (number_of r) (number-positive r) h
+  open_order (Ok _) f w cs h = told-order (eqb f.line 0) ∙ sym (behind-none cs _ (sym h))
+  open_order (Err why) f w cs h = behind-some cs _ (number_of why.refusal) (number-positive why.refusal) h
 
   -- 11, 14, the sheet's, 12, 15, 16
   pub log-exact : (checked sheet line capacity sets number log m out).answer.refusal ≡ first-refusal (log_table sheet line capacity sets number log m out)

@@ -1,13 +1,12 @@
 -- Laws of specs/LogKept.antt, and what only they need.
-use Rattle.std.specs.Prelude.{ℕ, ◌-◌, ◌*◌, ◌/◌, ◌≤◌, ◌≡◌, Bool, true, false, ◌⊎◌, ◌≢◌, eqb, ltb, length, take}
+use Rattle.std.specs.Prelude.{ℕ, ◌-◌, ◌*◌, ◌/◌, ◌≤◌, ◌≡◌, Bool, true, false, ◌⊎◌, ◌≢◌, eqb, ltb, length, take, Ok, Err}
 use Rattle.std.proofs.Math.Path.{refl, ap}
 use Rattle.std.proofs.Common.{◌∙◌, inr, arith, ltb-true, ltb-false, length-take-le}
 use Rattle.std.proofs.Math.Logic.{inl}
 use mathlib.Core.List.{List, []}
 use Rattle.std.proofs.lemmas.Bool.{eqb-false}
 use Rattle.value.specs.Operators.{pick}
-use Rattle.formula.specs.declared.Verdict.{Verdict}
-use Rattle.formula.specs.declared.Verdict.TheVariants.{Passed as passed, Refused}
+use Rattle.formula.specs.Results.{Verdict}
 use Rattle.formula.specs.Tree.{formula_of}
 use Rattle.formula.specs.Widths.{width}
 use Rattle.formula.proofs.TestLaws.{passed-each}
@@ -59,10 +58,10 @@ module _ (sheet line : List ℕ) (capacity : ℕ) (sets : List ℕ) (number : �
           }
 
       cut-checked : checked sheet line capacity sets number (take (line_bytes * k) log) m out
-          ≡ by_opening passed (followed set (take k (lines_of log)) 1 start []) (width (formula_of sheet)) m out
+          ≡ by_opening (Ok tt) (followed set (take k (lines_of log)) 1 start []) (width (formula_of sheet)) m out
       unfolding followed_log
       cut-checked =
-          checked-by sheet line capacity sets number (take (line_bytes * k) log) m out passed
+          checked-by sheet line capacity sets number (take (line_bytes * k) log) m out (Ok tt)
           (opens-opening sheet line capacity sets number (take (line_bytes * k) log) (length m) (length out) cut-opens)
           ∙ rw (cut-lines log k h l) refl
 
@@ -75,16 +74,16 @@ module _ (sheet line : List ℕ) (capacity : ℕ) (sets : List ℕ) (number : �
         let w = length-lines log in
         ap (λ (k : ℕ). checked sheet line capacity sets number (take (line_bytes * k) log) m out) i
         ∙ cut-checked S.at (omega (arith, S.within, w)) (omega (arith, S.within, w))
-        ∙ ap (λ (g : Followed). by_opening passed g (width (formula_of sheet)) m out) S.before
+        ∙ ap (λ (g : Followed). by_opening (Ok tt) g (width (formula_of sheet)) m out) S.before
 
   keeps-by : (v : Verdict) → opening sheet line capacity sets number log (length m) (length out) ≡ v → (checked sheet line capacity sets number log m out).answer.refusal ≢ 0
       → LogLeaves m out (checked sheet line capacity sets number log m out) ⊎ AsEarlierLines sheet line capacity sets number log m out
   unfolding by_opening told followed_log
-  keeps-by (Refused r row) e n = inl (rw (checked-by sheet line capacity sets number log m out (Refused r row) e) (refl, refl, refl, refl))
-  keeps-by passed e n = go (eqb f.line 0) refl
+  keeps-by (Err why) e n = inl (rw (checked-by sheet line capacity sets number log m out (Err why) e) (refl, refl, refl, refl))
+  keeps-by (Ok _) e n = go (eqb f.line 0) refl
     where
       i : checked sheet line capacity sets number log m out ≡ c
-      i = checked-by sheet line capacity sets number log m out passed e
+      i = checked-by sheet line capacity sets number log m out (Ok tt) e
 
       go : (b : Bool) → eqb f.line 0 ≡ b
           → LogLeaves m out (checked sheet line capacity sets number log m out) ⊎ AsEarlierLines sheet line capacity sets number log m out

@@ -1,15 +1,13 @@
 -- Laws of the log checker's definitions (machine_log/specs): when its tests before following pass, a log followed line by line, and the lines of a log cut behind
 -- one of them. Assumes nothing.
-use Rattle.std.specs.Prelude.{ℕ, zero, suc, ◌+◌, ◌-◌, ◌*◌, ◌≤◌, ◌<◌, ◌≡◌, refl, true, ◌&&◌, ◌≢◌, length, get_or, take, drop}
+use Rattle.std.specs.Prelude.{ℕ, zero, suc, ◌+◌, ◌-◌, ◌*◌, ◌≤◌, ◌<◌, ◌≡◌, refl, true, ◌&&◌, ◌≢◌, length, get_or, take, drop, Ok}
 use Rattle.std.proofs.Math.Path.{sym, ap}
 use Rattle.std.proofs.Common.{◌∙◌, arith, le-leb, length-drop, take-append-drop, length-take-le, get_or-take}
 use mathlib.Core.List.{List, [], ◌∷◌, ◌++◌}
 use Rattle.std.proofs.Math.Decide.{ℕ_discrete}
 use Rattle.std.proofs.Math.Dec.{leb}
 use Rattle.std.proofs.lemmas.List.{take-append-le, drop-append-le}
-use Rattle.formula.specs.declared.Check.TheVariants.{Passed}
-use Rattle.formula.specs.declared.Verdict.{Verdict}
-use Rattle.formula.specs.declared.Verdict.TheVariants.{Passed as passed}
+use Rattle.formula.specs.Results.{Verdict}
 use Rattle.formula.specs.Tree.{formula_of}
 use Rattle.formula.specs.Widths.{width}
 use Rattle.formula.specs.Tests.{after_check}
@@ -25,7 +23,7 @@ use Rattle.machine_log.specs.CheckedLaws.{Opened as Opens}
 -- ---- the tests before a log is followed
 -- They pass where what passing says holds; the other way is machine_log/specs/CheckedLaws `opening-passed`.
 pub opens-opening : (sheet line : List ℕ) (capacity : ℕ) (sets : List ℕ) (number : ℕ) (log : List ℕ) (memBytes out_bytes : ℕ)
-    → Opens sheet line capacity sets number log memBytes out_bytes → opening sheet line capacity sets number log memBytes out_bytes ≡ passed
+    → Opens sheet line capacity sets number log memBytes out_bytes → opening sheet line capacity sets number log memBytes out_bytes ≡ Ok tt
 unfolding opening behind after_check
 opens-opening sheet line capacity sets number log memBytes out_bytes O =
     let L = O.lends in
@@ -164,7 +162,7 @@ module _ (log : List ℕ) (k : ℕ) (h : k ≤ line_count log) (whole-lines : li
       ∙ lines-first k (line_count log) log h
 
   -- Its lines are as well as they were.
-  pub cut-check : (number : ℕ) → ((j : ℕ) → 1 ≤ j → j ≤ k → line_well number log j ≡ true) → log_check number cut-behind ≡ Passed
+  pub cut-check : (number : ℕ) → ((j : ℕ) → 1 ≤ j → j ≤ k → line_well number log j ≡ true) → log_check number cut-behind ≡ Ok tt
   unfolding line_well
   cut-check number well =
       each-passed (line_count cut-behind) (line_well number cut-behind)

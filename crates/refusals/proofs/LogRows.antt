@@ -1,6 +1,6 @@
 -- Laws of specs/LogRows.antt, and what only they need.
 use Prim.Native.Nat.{ℕ, ◌-◌, ◌≤◌}
-use Rattle.std.specs.Prelude.{◌≡◌, Bool, ◌&&◌, ◌⊎◌, ◌≢◌, eqb, length, take}
+use Rattle.std.specs.Prelude.{◌≡◌, Bool, ◌&&◌, ◌⊎◌, ◌≢◌, eqb, length, take, Ok, Err}
 use Rattle.std.proofs.Math.Path.{refl}
 use Rattle.std.proofs.Common.{ap, arith, eq-eqb, ne_eqb, get_or-take, take-take, length-take-le}
 use Rattle.std.proofs.Math.Bool.{true, false}
@@ -11,10 +11,7 @@ use Rattle.std.proofs.Math.Dec.{leb}
 use Rattle.value.specs.Operators.{pick}
 use Rattle.formula.specs.declared.Refusal.{Refusal}
 use Rattle.formula.specs.declared.Refusal.TheVariants.{Memory, Capacity, Set, LogLine, LogRefused}
-use Rattle.formula.specs.declared.Check.{Check}
-use Rattle.formula.specs.declared.Check.TheVariants.{Passed, Fault}
-use Rattle.formula.specs.declared.Verdict.{Verdict}
-use Rattle.formula.specs.declared.Verdict.TheVariants.{Passed as passed, Refused}
+use Rattle.formula.specs.Results.{Check, Verdict}
 use Rattle.formula.specs.Refusals.{number_of}
 use Rattle.formula.specs.Tree.{formula_of}
 use Rattle.formula.specs.Faults.{letters_of}
@@ -57,23 +54,23 @@ module _ (sheet line : List ℕ) (capacity : ℕ) (sets : List ℕ) (number : �
   RowBefore r row = RowOf sheet line r row ⊎ ((r ≡ LogLine) × LowestAt (line_count log) (line_well number log) row)
 
   unfoldable OpeningRow : Verdict → Type 0
-  OpeningRow passed = Unit {0}
-  OpeningRow (Refused r row) = RowBefore r row
+  OpeningRow (Ok _) = Unit {0}
+  OpeningRow (Err why) = RowBefore why.refusal why.row
 
   whole_row_lem : (r : Refusal) (b : Bool) (v : Verdict) → RowOf sheet line r 0 → OpeningRow v → OpeningRow (after_check r (whole b) v)
   unfolding after_check OpeningRow
   whole_row_lem r true v h k = k
   whole_row_lem r false v h k = inl h
 
-  lines-row : (c : Check) → log_check number log ≡ c → OpeningRow (after_check LogLine c passed)
+  lines-row : (c : Check) → log_check number log ≡ c → OpeningRow (after_check LogLine c (Ok tt))
   unfolding after_check OpeningRow
-  lines-row Passed e = tt
-  lines-row (Fault row) e = inr (refl, lowest-at _ _ row e)
+  lines-row (Ok _) e = tt
+  lines-row (Err row) e = inr (refl, lowest-at _ _ row e)
 
   behind-row : (v w : Verdict) → VerdictRow sheet line v → OpeningRow w → OpeningRow (behind v w)
   unfolding behind OpeningRow
-  behind-row passed w h k = k
-  behind-row (Refused r row) w h k = inl h
+  behind-row (Ok _) w h k = k
+  behind-row (Err why) w h k = inl h
 
   opening-row : OpeningRow (opening sheet line capacity sets number log (length m) (length out))
   unfolding opening
@@ -95,9 +92,9 @@ module _ (sheet line : List ℕ) (capacity : ℕ) (sets : List ℕ) (number : �
   by-opening : (v : Verdict) (f : Followed) (w : ℕ) → OpeningRow v → (f.line ≢ 0 → LowestAt (line_count log) (line_followed sheet line capacity sets number log m) f.line)
       → (by_opening v f w m out).answer.refusal ≢ 0 → LogRow sheet line capacity sets number log m (by_opening v f w m out).answer.refusal (by_opening v f w m out).answer.row
   unfolding by_opening told OpeningRow
-  by-opening passed f w o h n = stopped-row f h (eqb f.line 0) refl n
-  by-opening (Refused r row) f w (inl o) h n = inl (r, refl, o)
-  by-opening (Refused r row) f w (inr o) h n = inr (inl (ap number_of o.0, o.1))
+  by-opening (Ok _) f w o h n = stopped-row f h (eqb f.line 0) refl n
+  by-opening (Err why) f w (inl o) h n = inl (why.refusal, refl, o)
+  by-opening (Err why) f w (inr o) h n = inr (inl (ap number_of o.0, o.1))
 
   pub log-row : (checked sheet line capacity sets number log m out).answer.refusal ≢ 0
       → LogRow sheet line capacity sets number log m (checked sheet line capacity sets number log m out).answer.refusal (checked sheet line capacity sets number log m out).answer.row

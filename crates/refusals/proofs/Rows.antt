@@ -1,9 +1,7 @@
 -- Laws of specs/Rows.antt, and what only they need.
-use Rattle.std.specs.Prelude.{ℕ, ◌-◌, ◌≡◌, refl, Bool, List, ◌++◌, leb}
+use Rattle.std.specs.Prelude.{ℕ, ◌-◌, ◌≡◌, refl, Bool, List, ◌++◌, leb, Ok, Err}
 use Rattle.formula.specs.declared.Refusal.{Refusal}
-use Rattle.formula.specs.declared.Check.TheVariants.{Fault}
-use Rattle.formula.specs.declared.Verdict.{Verdict}
-use Rattle.formula.specs.declared.Verdict.TheVariants.{Passed as passed, Refused as refused}
+use Rattle.formula.specs.Results.{Verdict, refused}
 use Rattle.formula.specs.Sheet.{row_count, lines_of, fields_of}
 use Rattle.formula.specs.Tests.{lowest, laid_out, few_rows, line_fits, kinds_kept, operators_of, verdict_of, tests, row_tests, formula_tests, kind_tests, graph_tests, sheet_of}
 use Rattle.formula.specs.Kinds.{kinded}
@@ -16,10 +14,10 @@ use Rattle.formula.proofs.Verdicts.{later-says}
 use Rattle.refusals.specs.Rows.{LowestAt, RowOf, VerdictRow}
 
 pub by-refusal : (s line : List ℕ) (v : Verdict) → ((r : Refusal) (row : ℕ) → v ≡ refused r row → RowOf s line r row) → VerdictRow s line v
-by-refusal s line passed h = tt
-by-refusal s line (refused r row) h = h r row refl
+by-refusal s line (Ok _) h = tt
+by-refusal s line (Err why) h = h why.refusal why.row refl
 
-pub lowest-at : (n : ℕ) (well : ℕ → Bool) (row : ℕ) → lowest n well ≡ Fault row → LowestAt n well row
+pub lowest-at : (n : ℕ) (well : ℕ → Bool) (row : ℕ) → lowest n well ≡ Err row → LowestAt n well row
 lowest-at n well row h = let i = lowest-fault n well row h in record { first = i.0; last = i.1; fault = i.2; lower = i.3 }
 
 pub row-faults : (s line : List ℕ) → Each (FaultSays (RowOf s line) (sheet_of s)) row_tests

@@ -1,11 +1,10 @@
 -- Laws of specs/TaggedRefused.antt, and what only they need.
-use Rattle.std.specs.Prelude.{ℕ, ◌≡◌, refl, Bool, true, false, not, ◌&&◌, ◌⊎◌, ◌≢◌, List, [], ◌∷◌, ◌++◌, ltb, eqb, length}
+use Rattle.std.specs.Prelude.{ℕ, ◌≡◌, refl, Bool, true, false, not, ◌&&◌, ◌⊎◌, ◌≢◌, List, [], ◌∷◌, ◌++◌, ltb, eqb, length, Ok, Err}
 use Rattle.std.proofs.Common.{sym, ap, ◌∙◌, subst, inl, inr, arith, ltb-true, ltb-false, ne_eqb}
 use Rattle.std.proofs.Math.Decide.{ℕ_discrete}
 use Rattle.value.specs.Operators.{pick}
 use Rattle.formula.specs.declared.Refusal.TheVariants.{Memory, Set, Altered, NoTag, NoTagResult, Loop}
-use Rattle.formula.specs.declared.Verdict.{Verdict}
-use Rattle.formula.specs.declared.Verdict.TheVariants.{Passed as passed, Refused as refused}
+use Rattle.formula.specs.Results.{Verdict}
 use Rattle.formula.specs.Refusals.{number_of}
 use Rattle.formula.proofs.Refusals.{number-positive}
 use Rattle.formula.specs.Tree.{Exp, formula_of}
@@ -146,10 +145,10 @@ tagged-start-order : (s l : Bool) (v : Verdict) (x : Exp) (kinds m : List ℕ) (
     → (pick s (begun (startRefusal Memory 0) m) (tag_by_verdict v l x kinds m)).answer.refusal ≡ first-refusal ((s, Memory) ∷ (cs ++ ((l, Loop) ∷ [])))
 unfolding first-refusal tag_by_verdict
 tagged-start-order true l v x kinds m cs h = refl
-tagged-start-order false l (refused r row) x kinds m cs h = behind-some cs _ (number_of r) (number-positive r) h
-tagged-start-order false l passed x kinds m cs h = looped l ∙ sym (behind-none cs _ (sym h))
+tagged-start-order false l (Err why) x kinds m cs h = behind-some cs _ (number_of why.refusal) (number-positive why.refusal) h
+tagged-start-order false l (Ok _) x kinds m cs h = looped l ∙ sym (behind-none cs _ (sym h))
   where
-    looped : (l : Bool) → (tag_by_verdict passed l x kinds m).answer.refusal ≡ first-refusal ((l, Loop) ∷ [])
+    looped : (l : Bool) → (tag_by_verdict (Ok tt) l x kinds m).answer.refusal ≡ first-refusal ((l, Loop) ∷ [])
     looped true = refl
     looped false = refl
 
@@ -161,9 +160,9 @@ tagged-start-exact sheet line m =
 
 tagged-start-by : (sheet line : List ℕ) (v : Verdict) (l : Bool) (x : Exp) (kinds m : List ℕ) → VerdictRow sheet line v → StartKeeps sheet line m (tag_by_verdict v l x kinds m)
 unfolding tag_by_verdict
-tagged-start-by sheet line (refused r row) l x kinds m s h = ((r, refl, s), refl, refl, refl, refl)
-tagged-start-by sheet line passed true x kinds m s h = ((Loop, refl, refl), refl, refl, refl, refl)
-tagged-start-by sheet line passed false x kinds m s h = absurd (h refl)
+tagged-start-by sheet line (Err why) l x kinds m s h = ((why.refusal, refl, s), refl, refl, refl, refl)
+tagged-start-by sheet line (Ok _) true x kinds m s h = ((Loop, refl, refl), refl, refl, refl, refl)
+tagged-start-by sheet line (Ok _) false x kinds m s h = absurd (h refl)
 
 pub tagged-start-keeps : (sheet line m : List ℕ) → StartKeeps sheet line m (tag_started sheet line m)
 unfolding tag_started

@@ -1,10 +1,9 @@
 -- Laws of specs/TidyRefused.antt, and what only they need.
-use Rattle.std.specs.Prelude.{ℕ, ◌≡◌, refl, Bool, true, false, List, [], ◌∷◌}
+use Rattle.std.specs.Prelude.{ℕ, ◌≡◌, refl, Bool, true, false, List, [], ◌∷◌, Ok, Err}
 use Rattle.std.proofs.Common.{sym, ap, subst, ◌∙◌}
 use Rattle.value.specs.Operators.{pick}
 use Rattle.formula.specs.declared.Refusal.TheVariants.{Memory}
-use Rattle.formula.specs.declared.Verdict.{Verdict}
-use Rattle.formula.specs.declared.Verdict.TheVariants.{Passed as passed, Refused as refused}
+use Rattle.formula.specs.Results.{Verdict}
 use Rattle.formula.specs.Sheet.{lines_of}
 use Rattle.formula.specs.Tests.{laid_out, few_rows, row_tests, sheet_of}
 use Rattle.sheet_read.specs.Reading.{row_verdict}
@@ -32,8 +31,8 @@ tidy-order : (b : Bool) (v : Verdict) (s out : List ℕ) (cs : List Row) → num
     → (pick b (handed (answers 11 0 0) out) (by_verdict v s out)).answer.refusal ≡ first-refusal ((b, Memory) ∷ cs)
 unfolding by_verdict first-refusal
 tidy-order true v s out cs h = refl
-tidy-order false passed s out cs h = h
-tidy-order false (refused r row) s out cs h = h
+tidy-order false (Ok _) s out cs h = h
+tidy-order false (Err why) s out cs h = h
 
 -- 11, 1 to 5
 pub tidy-exact : (s out : List ℕ) → (tidied_into s out).answer.refusal ≡ first-refusal (tidy_table s out)
@@ -43,13 +42,13 @@ tidy-exact s out = tidy-order (no-room-to-tidy s out) (row_verdict s) s out (row
 -- ---- its row and its bytes
 -- The row of tests 1 to 5 is reading's, whatever the kinds line.
 rows_row : (s : List ℕ) (v : Verdict) → v ≡ row_verdict s → VerdictRow s [] v
-rows_row s passed e = tt
-rows_row s (refused r row) e = subst (VerdictRow s []) (sym (rows-refuse s [] (refused r row) r row e refl)) (verdict-row s [])
+rows_row s (Ok _) e = tt
+rows_row s (Err why) e = subst (VerdictRow s []) (sym (rows-refuse s [] (Err why) why.refusal why.row e refl)) (verdict-row s [])
 
 tidy-by : (s out : List ℕ) (v : Verdict) → VerdictRow s [] v → TidyKeeps s out (by_verdict v s out)
 unfolding by_verdict
-tidy-by s out passed e h = absurd (h refl)
-tidy-by s out (refused r row) e h = ((r, refl, e), refl, refl)
+tidy-by s out (Ok _) e h = absurd (h refl)
+tidy-by s out (Err why) e h = ((why.refusal, refl, e), refl, refl)
 
 pub tidy-keeps : (s out : List ℕ) → TidyKeeps s out (tidied_into s out)
 unfolding tidied_into

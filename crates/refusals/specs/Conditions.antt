@@ -4,12 +4,11 @@
 -- document 02, Job 13, "20 .., after 10, and 21 .., after 20"; document 02, Job 14, "both after 11"; document 02, Job 12, "19 .., after 10, and 37 .., in place of
 -- 32 and 33, and 38 .., in place of 35".
 -- Definitions only; assumes nothing.
-use Rattle.std.specs.Prelude.{ℕ, zero, suc, ◌-◌, ◌*◌, Bool, true, false, not, ◌&&◌, ◌||◌, List, [], ◌∷◌, ◌++◌, eqb, leb, ltb, length, take, drop}
+use Rattle.std.specs.Prelude.{ℕ, zero, suc, ◌-◌, ◌*◌, Bool, true, false, not, ◌&&◌, ◌||◌, List, [], ◌∷◌, ◌++◌, eqb, leb, ltb, length, take, drop, Ok, Err}
 use Rattle.std.proofs.Math.Option.{Option, some, none}
 use Rattle.value.specs.declared.Value.{Value}
 use Rattle.formula.specs.declared.Refusal.TheVariants.{Layout, Rows, Malformed, Range, Naming, Named, StrayIter, Width, Unused, Operators, Memory, Set, Capacity, LogLine, LogRefused, KindsLine, KindsBroken, Loop, Sort, Movement, Unlisted, LastListed, Altered, Untaken, Full, NotAble, NoResult, Unfinished, NoTag, NoTagResult}
-use Rattle.formula.specs.declared.Check.{Check}
-use Rattle.formula.specs.declared.Check.TheVariants.{Passed, Fault}
+use Rattle.formula.specs.Results.{Check}
 use Rattle.formula.specs.Sheet.{row_count, lines_of, fields_of}
 use Rattle.formula.specs.Places.{places_of}
 use Rattle.formula.specs.Tree.{Exp, formula_of}
@@ -192,8 +191,8 @@ tagged_take_table m t out =
 
 -- some row is at fault
 abbrev pub failed : Check → Bool
-failed Passed = false
-failed (Fault row) = true
+failed (Ok _) = false
+failed (Err row) = true
 
 -- 1 to 5, each "tested over the whole sheet before the next"
 abbrev pub row_table : List ℕ → List Row

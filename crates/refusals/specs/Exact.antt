@@ -1,15 +1,12 @@
 -- Demand 2: "A call is refused exactly when document 01 gives it a refusal, and with the first in the order there." Each call's refusal is the first of its
 -- table (Conditions), for every memory, set and number; with FirstRefusal's `accepted-exactly` and `refused-exactly` this is the sentence. The calls are
 -- the definitions that the contracts of their entry points cite. Assumes nothing.
-use Rattle.std.specs.Prelude.{ℕ, ◌-◌, ◌≤◌, ◌≡◌, refl, Bool, true, false, not, cond, ◌&&◌, List, [], ◌∷◌, ◌++◌, leb, ltb, eqb, length}
+use Rattle.std.specs.Prelude.{ℕ, ◌-◌, ◌≤◌, ◌≡◌, refl, Bool, true, false, not, cond, ◌&&◌, List, [], ◌∷◌, ◌++◌, leb, ltb, eqb, length, Ok, Err}
 use Rattle.value.specs.declared.Value.{Value}
 use Rattle.value.specs.Operators.{pick}
 use Rattle.formula.specs.declared.Refusal.{Refusal}
 use Rattle.formula.specs.declared.Refusal.TheVariants.{Memory, Set, Capacity, Altered, Untaken, Full, NotAble, NoResult, Unfinished}
-use Rattle.formula.specs.declared.Check.{Check}
-use Rattle.formula.specs.declared.Check.TheVariants.{Passed, Fault}
-use Rattle.formula.specs.declared.Verdict.{Verdict}
-use Rattle.formula.specs.declared.Verdict.TheVariants.{Passed as passed, Refused}
+use Rattle.formula.specs.Results.{Verdict}
 use Rattle.formula.specs.declared.Figures.{Figures}
 use Rattle.formula.specs.Refusals.{number_of}
 use Rattle.formula.specs.Sheet.{row_count, lines_of, fields_of}
@@ -37,8 +34,8 @@ use Rattle.refusals.specs.Conditions.{failed}
 -- ---- what reading says
 -- The number of a verdict, 0 where the sheet passed.
 abbrev pub number_in : Verdict → ℕ
-number_in passed = 0
-number_in (Refused r row) = number_of r
+number_in (Ok _) = 0
+number_in (Err why) = number_of why.refusal
 
 -- The table of a list of tests: the number of their verdict is its first refusal.
 abbrev pub table_by : List Test → Sheet → List Row

@@ -1,11 +1,9 @@
 -- What a refused check of a log hands back: every lent byte as it was, or, where the machine would refuse a line, "16 leaving machine, results and count as the
 -- earlier lines made them" (document 02, Job 3). Assumes nothing.
-use Rattle.std.specs.Prelude.{ℕ, ◌-◌, ◌*◌, ◌/◌, ◌≤◌, ◌≡◌, Bool, true, false, ◌⊎◌, ◌≢◌, eqb, ltb, length, take}
+use Rattle.std.specs.Prelude.{ℕ, ◌-◌, ◌*◌, ◌/◌, ◌≤◌, ◌≡◌, Bool, true, false, ◌⊎◌, ◌≢◌, eqb, ltb, length, take, Ok}
 use mathlib.Core.List.{List, []}
 use Rattle.value.specs.Operators.{pick}
 use Rattle.formula.specs.declared.Refusal.TheVariants.{LogRefused}
-use Rattle.formula.specs.declared.Verdict.{Verdict}
-use Rattle.formula.specs.declared.Verdict.TheVariants.{Passed as passed, Refused}
 use Rattle.formula.specs.Refusals.{number_of}
 use Rattle.formula.specs.Tree.{formula_of}
 use Rattle.formula.specs.Widths.{width}
@@ -43,4 +41,4 @@ module _ (sheet line : List ℕ) (capacity : ℕ) (sets : List ℕ) (number : �
   f = followed set (lines_of log) 1 start []
 
   abbrev pub c : Checked
-  c = by_opening passed f (width (formula_of sheet)) m out
+  c = by_opening (Ok tt) f (width (formula_of sheet)) m out

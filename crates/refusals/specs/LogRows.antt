@@ -5,10 +5,6 @@ use mathlib.Core.List.{List, []}
 use Rattle.value.specs.Operators.{pick}
 use Rattle.formula.specs.declared.Refusal.{Refusal}
 use Rattle.formula.specs.declared.Refusal.TheVariants.{Memory, Capacity, Set, LogLine, LogRefused}
-use Rattle.formula.specs.declared.Check.{Check}
-use Rattle.formula.specs.declared.Check.TheVariants.{Passed, Fault}
-use Rattle.formula.specs.declared.Verdict.{Verdict}
-use Rattle.formula.specs.declared.Verdict.TheVariants.{Passed as passed, Refused}
 use Rattle.formula.specs.Refusals.{number_of}
 use Rattle.formula.specs.Tree.{formula_of}
 use Rattle.formula.specs.Faults.{letters_of}

@@ -1,11 +1,9 @@
 -- The row of a refusal. Document 01, "Said by what was handed in": "3 to 9 give the lowest row at fault, others row 0"; document 02, Job 6 and Job 13: of 18
 -- and of 20 "lowest row given". Assumes nothing.
-use Rattle.std.specs.Prelude.{ℕ, ◌-◌, ◌≤◌, ◌<◌, ◌≡◌, refl, Bool, true, false, List, ◌++◌, leb}
+use Rattle.std.specs.Prelude.{ℕ, ◌-◌, ◌≤◌, ◌<◌, ◌≡◌, refl, Bool, true, false, List, ◌++◌, leb, Ok, Err}
 use Rattle.formula.specs.declared.Refusal.{Refusal}
 use Rattle.formula.specs.declared.Refusal.TheVariants.{Layout, Rows, Malformed, Range, Naming, Named, StrayIter, Width, Unused, Operators, Memory, Set, SetFile, Capacity, LogLine, LogRefused, KindsLine, KindsBroken, Loop, Sort, Movement, Unlisted, LastListed, Altered, Untaken, Full, NotAble, NoResult, Unfinished, NoTag, NoTagResult}
-use Rattle.formula.specs.declared.Check.TheVariants.{Fault}
-use Rattle.formula.specs.declared.Verdict.{Verdict}
-use Rattle.formula.specs.declared.Verdict.TheVariants.{Passed as passed, Refused as refused}
+use Rattle.formula.specs.Results.{Verdict}
 use Rattle.formula.specs.Refusals.{number_of}
 use Rattle.formula.specs.Sheet.{row_count, lines_of, fields_of}
 use Rattle.formula.specs.Places.{places_of}
@@ -70,5 +68,5 @@ abbrev pub RowTold : List ℕ → List ℕ → ℕ → ℕ → Type 0
 RowTold s line n row = (r : Refusal) × (number_of r ≡ n) × RowOf s line r row
 
 abbrev pub VerdictRow : List ℕ → List ℕ → Verdict → Type 0
-VerdictRow s line passed = Unit {0}
-VerdictRow s line (refused r row) = RowOf s line r row
+VerdictRow s line (Ok _) = Unit {0}
+VerdictRow s line (Err why) = RowOf s line why.refusal why.row

@@ -4,8 +4,6 @@ use Rattle.std.specs.Prelude.{ℕ, ◌≡◌, refl, Bool, true, false, not, ◌�
 use Rattle.value.specs.Operators.{pick}
 use Rattle.formula.specs.declared.Refusal.{Refusal}
 use Rattle.formula.specs.declared.Refusal.TheVariants.{Memory}
-use Rattle.formula.specs.declared.Verdict.{Verdict}
-use Rattle.formula.specs.declared.Verdict.TheVariants.{Passed as passed, Refused as refused}
 use Rattle.formula.specs.Refusals.{number_of}
 use Rattle.formula.specs.Sheet.{lines_of}
 use Rattle.formula.specs.Tests.{laid_out, few_rows, row_tests, sheet_of}

@@ -1,11 +1,11 @@
 -- Laws of specs/LongLines.antt, and what only they need.
-use Rattle.std.specs.Prelude.{ℕ, suc, ◌≤◌, ◌<◌, ◌≡◌, Bool, true, false, List, ◌++◌, length}
+use Rattle.std.specs.Prelude.{ℕ, suc, ◌≤◌, ◌<◌, ◌≡◌, Bool, true, false, List, ◌++◌, length, Ok}
 use Rattle.std.proofs.Math.Path.{refl, ap}
 use Rattle.std.proofs.Common.{sym, ◌∙◌, arith, length-append}
 use Rattle.names.specs.Names.{without, one, trigger}
 use Rattle.names.proofs.Sets.{length-members, size-le}
 use Rattle.formula.specs.declared.Refusal.TheVariants.{KindsLine}
-use Rattle.formula.specs.declared.Verdict.TheVariants.{Passed as passed, Refused}
+use Rattle.formula.specs.Results.{refused}
 use Rattle.formula.specs.Sheet.{row_count, fields_of}
 use Rattle.formula.specs.Tree.{Exp, exp_of}
 use Rattle.formula.specs.Free.{free_e, inputs_of}
@@ -33,13 +33,13 @@ too_long t n line h = go (line_fits t n line) refl
     go false e = e
 
 module _ (s : List ℕ) where
-  kinds-untold : (line : List ℕ) → line_fits (fields_of s) (row_count s) line ≡ false → verdict_by (kind_tests line ++ graph_tests) (sheet_of s) ≡ Refused KindsLine 0
+  kinds-untold : (line : List ℕ) → line_fits (fields_of s) (row_count s) line ≡ false → verdict_by (kind_tests line ++ graph_tests) (sheet_of s) ≡ refused KindsLine 0
   unfolding verdict_by after_check kind_tests sheet_of
   kinds-untold line e = rw e refl
 
   -- Where 17 does not pass, no other line is told apart from this one.
   untold : (line : List ℕ) → line_fits (fields_of s) (row_count s) line ≡ false
-      → verdict_of s line ≡ then (verdict_by row_tests (sheet_of s)) (then (verdict_by formula_tests (sheet_of s)) (Refused KindsLine 0))
+      → verdict_of s line ≡ then (verdict_by row_tests (sheet_of s)) (then (verdict_by formula_tests (sheet_of s)) (refused KindsLine 0))
   unfolding verdict_of tests
   untold line e =
       then-behind (sheet_of s) row_tests (formula_tests ++ (kind_tests line ++ graph_tests))
@@ -53,6 +53,6 @@ module _ (s : List ℕ) where
       ∙ sym (untold line (too_long (fields_of s) (row_count s) line h))
 
   -- No line that is accepted is so long.
-  pub passed-short : (line : List ℕ) → verdict_of s line ≡ passed → length line ≤ longest_kinds
+  pub passed-short : (line : List ℕ) → verdict_of s line ≡ Ok tt → length line ≤ longest_kinds
   passed-short line e =
       omega (arith, told-length (fields_of s) (row_count s) line (passed-kinded s line e).told, inputs-few (exp_of (fields_of s) (row_count s)))

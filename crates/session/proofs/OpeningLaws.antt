@@ -1,6 +1,6 @@
 -- Laws of the opening: each way in which it ends, from what the code has found out. Assumes nothing.
 use Prim.Native.Nat.{ℕ, ◌+◌, ◌%◌, ◌≤◌, ◌<◌}
-use Rattle.std.specs.Prelude.{◌≡◌, ◌⊎◌, false, not, ◌&&◌, eqb, drop}
+use Rattle.std.specs.Prelude.{◌≡◌, ◌⊎◌, false, not, ◌&&◌, eqb, drop, Ok, Err}
 use Rattle.std.proofs.Math.Path.{refl, sym, ap, subst}
 use Rattle.std.proofs.Common.{ap₂, ◌∙◌, inl, inr, arith, length-take-le}
 use Rattle.std.proofs.Math.Bool.{true}
@@ -12,8 +12,7 @@ use Rattle.std.proofs.lemmas.List.Edits.{sets}
 use Rattle.std.proofs.Math.Seq.{drop-length}
 use Rattle.formula.specs.declared.Refusal.{Refusal}
 use Rattle.formula.specs.declared.Refusal.TheVariants.{Layout, Rows, Set, SetFile}
-use Rattle.formula.specs.declared.Verdict.{Verdict}
-use Rattle.formula.specs.declared.Verdict.TheVariants.{Passed, Refused}
+use Rattle.formula.specs.Results.{Verdict, refused}
 use Rattle.formula.specs.Refusals.{number_of}
 use Rattle.formula.specs.Sheet.{lines_of, fields_of, row_count}
 use Rattle.formula.specs.Tree.{formula_of}
@@ -29,7 +28,6 @@ use Rattle.machine_start.specs.Start.{Begun, begun, refusal, accepted, started_m
 use Rattle.machine_start.specs.StartLaws.{AcceptedStart, accepted-start, started-read, capacity-in}
 use Rattle.demand_begin.proofs.MadeSound.{made-sound, same-figures}
 use Rattle.text.specs.declared.Seen.{Seen}
-use Rattle.text.specs.declared.Lines.TheVariants.{Sets as counted, Bad as bad}
 use Rattle.text.specs.Printed.{head_line, refusal_line}
 use Rattle.text.proofs.PrintLaws.{refusal-length, head-length, written-front}
 use Rattle.text.specs.Scan.{seen_laid_out}
@@ -80,28 +78,28 @@ pub head-behind : (inputs results n : ℕ) (l out : List ℕ) → head_bytes ≤
 head-behind inputs results n l out h e = ap (drop head_bytes) e ∙ behind-written l l 0 head_bytes (head_line inputs results n) (head-length inputs results n) h refl
 
 -- ---- the set file's test
-bad-is : (f : File) (i : ℕ) → bad i ≡ count_of f → f ≡ bad_line i
+bad-is : (f : File) (i : ℕ) → Err i ≡ count_of f → f ≡ bad_line i
 bad-is (setsIn ss) i e = let z : ◌≡◌ {A = ℕ} 0 1 = cc in absurd (omega arith)
 bad-is (bad_line j) i e = let z : i ≡ j = cc in ap bad_line (sym z)
 
-count-is : (f : File) (n : ℕ) → counted n ≡ count_of f → (ss : List (List ℕ)) × (f ≡ setsIn ss) × (n ≡ length ss)
+count-is : (f : File) (n : ℕ) → Ok n ≡ count_of f → (ss : List (List ℕ)) × (f ≡ setsIn ss) × (n ≡ length ss)
 count-is (setsIn ss) n e = (ss, refl, cc)
 count-is (bad_line j) n e = let z : ◌≡◌ {A = ℕ} 0 1 = cc in absurd (omega arith)
 
 module _ (kinds : List ℕ) (results : ℕ) (file : List ℕ) where
-  pub bad-few : (i : ℕ) → bad i ≡ count_of (sets_of kinds file) → i ≤ length file
+  pub bad-few : (i : ℕ) → Err i ≡ count_of (sets_of kinds file) → i ≤ length file
   bad-few i e = subst (λ (f : File). Few f (length file)) (bad-is (sets_of kinds file) i e) (file-few kinds file)
 
-  pub count-few : (n : ℕ) → counted n ≡ count_of (sets_of kinds file) → n ≤ length file
+  pub count-few : (n : ℕ) → Ok n ≡ count_of (sets_of kinds file) → n ≤ length file
   count-few n e =
       let c = count-is (sets_of kinds file) n e in
       let h : length c.0 ≤ length file = subst (λ (f : File). Few f (length file)) c.1 (file-few kinds file) in
       omega (arith, c.2, h)
 
-  pub judged-bad : (i : ℕ) (r : Opened) (out : List ℕ) → bad i ≡ count_of (sets_of kinds file) → Refuses (number_of Set) i (length file) r out → Judges kinds results file r out
+  pub judged-bad : (i : ℕ) (r : Opened) (out : List ℕ) → Err i ≡ count_of (sets_of kinds file) → Refuses (number_of Set) i (length file) r out → Judges kinds results file r out
   judged-bad i r out e h = subst (λ (f : File). JudgesBy f (length kinds) results (length file) r out) (sym (bad-is (sets_of kinds file) i e)) h
 
-  pub judged-sets : (n : ℕ) (l out : List ℕ) → counted n ≡ count_of (sets_of kinds file) → head_bytes ≤ length l → out ≡ sets l 0 (head_line (length kinds) results n)
+  pub judged-sets : (n : ℕ) (l out : List ℕ) → Ok n ≡ count_of (sets_of kinds file) → head_bytes ≤ length l → out ≡ sets l 0 (head_line (length kinds) results n)
       → Judges kinds results file (record { inputs = length kinds; stage = record { at = 0; remaining = n; firings = all_firings; printed = head_bytes } }) out
   judged-sets n l out e h p =
       let c = count-is (sets_of kinds file) n e in
@@ -184,11 +182,11 @@ module _ (first : List ℕ) (x : Seen) (line file m : List ℕ) (r : Opened) (m'
     answer-is : begun a m' ≡ by_verdict (verdict_of first line) (formula_of first) letters link_capacity m
     answer-is = q ∙ started-read first line link_capacity m (rw (capacity-in link_capacity (omega arith) (omega arith)) room) (omega arith) (omega arith)
 
-    passed-answer : verdict_of first line ≡ Passed → a.refusal ≡ 0
+    passed-answer : verdict_of first line ≡ Ok tt → a.refusal ≡ 0
     unfolding by_verdict
     passed-answer e = ap (λ (b : Begun). b.answer.refusal) (answer-is ∙ ap (λ (z : Verdict). by_verdict z (formula_of first) letters link_capacity m) e)
 
-    refused-output : (y : Refusal) (row : ℕ) (all whole : List ℕ) → verdict_of first line ≡ Refused y row → verdict_of first all ≡ verdict_of first line
+    refused-output : (y : Refusal) (row : ℕ) (all whole : List ℕ) → verdict_of first line ≡ refused y row → verdict_of first all ≡ verdict_of first line
         → bench_output first all whole ≡ refusal_line a.refusal a.row
     unfolding by_verdict bench_output output_in output_by
     refused-output y row all whole e d =
@@ -199,8 +197,8 @@ module _ (first : List ℕ) (x : Seen) (line file m : List ℕ) (r : Opened) (m'
     output-refused n all whole d = go (verdict_of first line) refl
       where
         go : (v : Verdict) → verdict_of first line ≡ v → bench_output first all whole ≡ refusal_line a.refusal a.row
-        go Passed e = absurd (n (passed-answer e))
-        go (Refused y row) e = refused-output y row all whole e d
+        go (Ok _) e = absurd (n (passed-answer e))
+        go (Err why) e = refused-output why.refusal why.row all whole e d
 
     pub opens-refused : (a.refusal ≡ 0 → ⊥) → Refuses a.refusal a.row (length file) r out → OpensTo first x line file r m' out
     opens-refused n p more moreLine moreSets w t u =

@@ -1,14 +1,13 @@
 -- What the program prints (Output) is a matter of its three files alone: the lent memory makes no difference, and the repetitions are those that document 01
 -- asks for, until every set is taken. Assumes a memory as long as the machine needs.
-use Rattle.std.specs.Prelude.{ℕ, ◌+◌, ◌≤◌, ◌≡◌, ltb, length}
+use Rattle.std.specs.Prelude.{ℕ, ◌+◌, ◌≤◌, ◌≡◌, ltb, length, Ok, Err}
 use Rattle.std.proofs.Math.Path.{refl, ap}
 use mathlib.Core.List.{List, [], ◌++◌}
 use Rattle.std.proofs.Common.{arith, le-ltb}
 use Rattle.std.proofs.lemmas.List.{length-replicate}
 use Rattle.value.specs.Operators.{pick}
 use Rattle.formula.specs.declared.Refusal.TheVariants.{SetFile}
-use Rattle.formula.specs.declared.Verdict.{Verdict}
-use Rattle.formula.specs.declared.Verdict.TheVariants.{Passed, Refused}
+use Rattle.formula.specs.Results.{Verdict}
 use Rattle.formula.specs.Refusals.{number_of}
 use Rattle.formula.specs.Tree.{formula_of}
 use Rattle.formula.specs.Faults.{letters_of}
@@ -42,7 +41,7 @@ pub blank-long : need (size_of link_capacity) ≤ length blank_memory
 unfolding blank_memory
 blank-long = omega (arith, length-replicate {A = ℕ} (need (size_of link_capacity)) 0)
 
-module _ (formula line : List ℕ) (ok : verdict_of formula line ≡ Passed) where
+module _ (formula line : List ℕ) (ok : verdict_of formula line ≡ Ok tt) where
   admissible : Admissible formula
   admissible = passed-admissible formula line ok
 
@@ -98,13 +97,13 @@ unfolding bench_output output_in output_by
 any_memory formula line file m h = go (verdict_of formula line) refl
   where
     go : (v : Verdict) → verdict_of formula line ≡ v → output_by v formula line file blank_memory ≡ output_by v formula line file m
-    go (Refused r row) e = refl
-    go Passed e =
+    go (Err why) e = refl
+    go (Ok _) e =
         ap (λ (z : List ℕ). pick (ltb most_set_bytes (length file)) (refusal_line (number_of SetFile) 0) z)
         (same-judged formula line e blank_memory m file blank-long h (sets_of (letters_of (formula_of formula) line) file) refl)
 
 -- With good sets it is the first line and the repetitions.
-pub output-is : (formula line file : List ℕ) → verdict_of formula line ≡ Passed → length file ≤ most_set_bytes → (ss : List (List ℕ)) → sets_of (letters_of (formula_of formula) line) file ≡ sets ss
+pub output-is : (formula line file : List ℕ) → verdict_of formula line ≡ Ok tt → length file ≤ most_set_bytes → (ss : List (List ℕ)) → sets_of (letters_of (formula_of formula) line) file ≡ sets ss
     → bench_output formula line file
     ≡ head_line (figures_of formula).inputs (figures_of formula).results (length ss)
     ++ passes (length ss + all_firings) (length ss) ss (started formula line link_capacity blank_memory).mem all_firings
@@ -112,7 +111,7 @@ unfolding bench_output output_in output_by judged
 output-is formula line file ok h ss e = rw (ok, le-ltb most_set_bytes (length file) h, e) refl
 
 -- For an accepted sheet and good sets: the first line, and what the repetitions print until every set is taken.
-pub output-repeats : (formula line file : List ℕ) → verdict_of formula line ≡ Passed → length file ≤ most_set_bytes → (ss : List (List ℕ)) → sets_of (letters_of (formula_of formula) line) file ≡ sets ss
+pub output-repeats : (formula line file : List ℕ) → verdict_of formula line ≡ Ok tt → length file ≤ most_set_bytes → (ss : List (List ℕ)) → sets_of (letters_of (formula_of formula) line) file ≡ sets ss
     → (out : List ℕ) × Finished (length ss) ss (started formula line link_capacity blank_memory).mem all_firings out
     × (bench_output formula line file ≡ head_line (figures_of formula).inputs (figures_of formula).results (length ss) ++ out)
 output-repeats formula line file ok h ss e = (

@@ -1,6 +1,6 @@
 -- Laws of specs/OwnLines.antt, and what only they need.
 use Prim.Native.Nat.{ℕ, zero, suc, ◌+◌, ◌-◌, ◌≤◌, ◌<◌}
-use Rattle.std.specs.Prelude.{◌≡◌, ◌⊎◌, Bool, true, false, get_or, take}
+use Rattle.std.specs.Prelude.{◌≡◌, ◌⊎◌, Bool, true, false, get_or, take, Ok}
 use Rattle.std.proofs.Math.Path.{refl, sym, ap, ap₂, subst}
 use Rattle.std.proofs.Common.{◌∙◌, arith, lt-ltb, length-append}
 use Rattle.std.proofs.Math.Logic.{inl, inr}
@@ -8,7 +8,6 @@ use mathlib.Core.List.{List, [], ◌∷◌, ◌++◌, append_assoc, append-nil}
 use Rattle.std.proofs.Math.Decide.{ℕ_discrete}
 use Rattle.std.proofs.Math.ListN.{length, get_or-append}
 use Rattle.formula.specs.declared.Refusal.TheVariants.{Unfinished}
-use Rattle.formula.specs.declared.Verdict.TheVariants.{Passed}
 use Rattle.formula.specs.Refusals.{number_of}
 use Rattle.formula.specs.Tree.{formula_of}
 use Rattle.formula.specs.Faults.{letters_of}
@@ -238,7 +237,7 @@ module _ (sheet line : List ℕ) (capacity : ℕ) (memory : List ℕ) (h : (star
       (λ k on b. prints f k (pass_of rest m left).rest (pass_of rest m left).mem (pass_of rest m left).left on b)))
 
 -- ---- the program
-module _ (formula line file : List ℕ) (ok : verdict_of formula line ≡ Passed) (small : length file ≤ most_set_bytes) (ss : List (List ℕ))
+module _ (formula line file : List ℕ) (ok : verdict_of formula line ≡ Ok tt) (small : length file ≤ most_set_bytes) (ss : List (List ℕ))
     (good : sets_of (letters_of (formula_of formula) line) file ≡ sets ss) where
   abbrev begins : (started formula line link_capacity blank_memory).answer.refusal ≡ 0
   begins = starts formula line ok blank_memory blank-long

@@ -3,7 +3,6 @@
 use Rattle.std.specs.Prelude.{ℕ, suc, ◌≤◌, ◌<◌, ◌≡◌, Bool, true, false, List, ◌++◌, length}
 use Rattle.names.specs.Names.{without, one, trigger}
 use Rattle.formula.specs.declared.Refusal.TheVariants.{KindsLine}
-use Rattle.formula.specs.declared.Verdict.TheVariants.{Passed as passed, Refused}
 use Rattle.formula.specs.Sheet.{row_count, fields_of}
 use Rattle.formula.specs.Tree.{Exp, exp_of}
 use Rattle.formula.specs.Free.{free_e, inputs_of}

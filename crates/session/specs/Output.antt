@@ -1,11 +1,10 @@
 -- What the bench program prints (document 01, "Program and readings"; document 02, Job 6), from all bytes of formula.txt, kinds.txt and sets.txt ("A missing
 -- file counts as empty"): "It makes the sheet's tests, then 13, then 12 (lowest line), then prints inputs, results and sets in three six-character
 -- fields, then a line for each set with an 11-character field a result. A refusal prints its number and row (12: line)". Assumes nothing.
-use Rattle.std.specs.Prelude.{ℕ, ◌+◌, List, ◌++◌, length, replicate, ltb}
+use Rattle.std.specs.Prelude.{ℕ, ◌+◌, List, ◌++◌, length, replicate, ltb, Ok, Err}
 use Rattle.value.specs.Operators.{pick}
 use Rattle.formula.specs.declared.Refusal.TheVariants.{Set, SetFile}
-use Rattle.formula.specs.declared.Verdict.{Verdict}
-use Rattle.formula.specs.declared.Verdict.TheVariants.{Passed, Refused}
+use Rattle.formula.specs.Results.{Verdict}
 use Rattle.formula.specs.declared.Figures.{Figures}
 use Rattle.formula.specs.Refusals.{number_of}
 use Rattle.formula.specs.Tree.{formula_of}
@@ -41,8 +40,8 @@ judged formula line memory f (sets ss) =
 
 unfoldable pub output_by : Verdict → List ℕ → List ℕ → List ℕ → List ℕ → List ℕ
 unfolding judged letters_of
-output_by (Refused r row) formula line file memory = refusal_line (number_of r) row
-output_by Passed formula line file memory =
+output_by (Err why) formula line file memory = refusal_line (number_of why.refusal) why.row
+output_by (Ok _) formula line file memory =
     pick (ltb most_set_bytes (length file)) (refusal_line (number_of SetFile) 0)
     (judged formula line memory (figures_of formula) (sets_of (letters_of (formula_of formula) line) file))
 

@@ -7,7 +7,6 @@ use mathlib.Core.List.{List, [], ◌∷◌, ◌++◌, append_assoc, append-nil}
 use Rattle.std.proofs.Math.ListN.{length}
 use Rattle.value.specs.Operators.{pick}
 use Rattle.formula.specs.declared.Refusal.TheVariants.{Unfinished}
-use Rattle.formula.specs.declared.Verdict.TheVariants.{Passed}
 use Rattle.formula.specs.Refusals.{number_of}
 use Rattle.formula.specs.Tree.{formula_of}
 use Rattle.formula.specs.Faults.{letters_of}

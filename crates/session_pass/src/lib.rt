@@ -1,7 +1,7 @@
 #![tactic(auto)]
 // One repetition of the program's loop (session/specs/Passes): "it pushes until refused or out of sets, runs with the firings left,
 // takes until refused".
-ghost use Rattle.std.specs.Prelude.{◌≡◌, ℕ, ◌+◌, ◌*◌, ◌-◌, ◌≤◌, ◌<◌, length, take, drop, replicate};
+ghost use Rattle.std.specs.Prelude.{◌≡◌, ℕ, ◌+◌, ◌*◌, ◌≤◌, ◌<◌, length, take, drop, MatchOption};
 ghost use Rattle.std.proofs.lemmas.List.Edits.{sets};
 ghost use Rattle.session.specs.Passes.{longest_line, out_bytes, taken_from, line_by, drained_of};
 ghost use Rattle.session.specs.Waiting.{Waits, FeedsTo, PassesTo};
@@ -16,33 +16,21 @@ pub struct Handful {
     pub printed: usize,
 }
 
-fn blank_result() -> [u8; RESULT_BYTES]
-    ensures { result ≡ replicate 80 0 }
-{
-    [0; RESULT_BYTES]
-}
-
-fn blank_set() -> [u8; SET_BYTES]
-    ensures { 160 ≡ length result }
-{
-    [0; SET_BYTES]
-}
-
-// Takes one result set, writes its line at `at` and tells the line's length; 0 where the take is refused.
-fn take_line(mem: &mut [u8], out: &mut [u8], at: usize) -> usize
+// Takes one result set, writes its line at `at` and tells the line's length; none where the take is refused.
+fn take_line(mem: &mut [u8], out: &mut [u8], at: usize) -> Option<usize>
     requires { at + longest_line ≤ length out.old }
-    ensures { (result ≡ length (line_by (taken_from mem.old)))
+    ensures { MatchOption result (length (line_by (taken_from mem.old)) ≡ 0) (λ n. (0 < n) × (n ≡ length (line_by (taken_from mem.old))))
         × (mem.new ≡ (taken_from mem.old).mem)
         × (out.new ≡ sets out.old at (line_by (taken_from mem.old))) }
 {
-    let mut result = blank_result();
+    let mut result = [0; RESULT_BYTES];
     let a = machine_calls::take(mem, &mut result);
     if a.refusal == 0 {
         let width = a.count as usize;
         text_print::put_results(out, at, width, &result);
-        return VALUE_FIELD * width + 1;
+        return Some(VALUE_FIELD * width + 1);
     }
-    0
+    None
 }
 
 // Takes until refused.
@@ -56,24 +44,22 @@ fn drain(mem: &mut [u8], out: &mut [u8]) -> Handful
 {
     let mut count = 0;
     let mut at = 0;
-    loop {
-        let line = take_line(mem, out, at);
-        if line == 0 {
-            return Handful { count, printed: at };
-        }
+    while let Some(line) = take_line(mem, out, at) {
         at += line;
         count += 1;
     }
+    Handful { count, printed: at }
 }
 
 // Pushes the sets whose lines start at `at`, until one is refused or none is left, and tells where the next line starts.
+// No counted loop: where a line ends, the next starts only if it was read as a set.
 fn feed(mem: &mut [u8], sets: &[u8], at: usize, kinds: &[u8]) -> usize
     requires { (length kinds.now ≤ 32) × (at ≤ length sets.now) × Waits kinds.now sets.now at }
     ensures feeds_to { FeedsTo kinds.now sets.now at mem.old result mem.new }
     ensures upper_bound { result ≤ length sets.now }
 {
     let mut next = at;
-    let mut set = blank_set();
+    let mut set = [0; SET_BYTES];
     let inputs = kinds.len();
     let size = VALUE_BYTES * inputs;
     while next < sets.len() {
@@ -90,13 +76,6 @@ fn feed(mem: &mut [u8], sets: &[u8], at: usize, kinds: &[u8]) -> usize
     next
 }
 
-// What is left of some sets or firings.
-fn left_after(had: u32, used: u32) -> u32
-    ensures { result ≡ had - used }
-{
-    if used < had { had - used } else { 0 }
-}
-
 // One repetition: its lines are in the front of `out`.
 pub fn pass(mem: &mut [u8], sets: &[u8], kinds: &[u8], stage: Stage, out: &mut [u8]) -> Stage
     requires { (length kinds.now ≤ 32) × (stage.at ≤ length sets.now) × (out_bytes ≤ length out.old) × Waits kinds.now sets.now stage.at }
@@ -107,11 +86,11 @@ pub fn pass(mem: &mut [u8], sets: &[u8], kinds: &[u8], stage: Stage, out: &mut [
     let at = feed(mem, sets, stage.at, kinds);
     let a = machine_calls::run(mem, stage.firings);
     let taken = drain(mem, out);
-    let firings = left_after(stage.firings, a.count);
+    let firings = stage.firings.saturating_sub(a.count);
     if a.refusal == 0 {
         return Stage {
             at,
-            remaining: left_after(stage.remaining, taken.count),
+            remaining: stage.remaining.saturating_sub(taken.count),
             firings,
             printed: taken.printed,
         };

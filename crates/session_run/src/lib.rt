@@ -3,76 +3,43 @@
 // written no contract can say; that the parts belong together is said here.
 pub mod opening; // opening.rt: the tests and the first line
 
-ghost use Rattle.std.specs.Prelude.{◌≡◌, ◌+◌, ◌≤◌, length};
+ghost use Rattle.std.specs.Prelude.{◌≡◌, ◌≤◌, length, IfSome};
 ghost use Rattle.files.specs.Counts.{IsPrefixLen};
 ghost use Rattle.session.specs.Reading.{Continued, SheetRead};
-ghost use Rattle.session.specs.Output.{most_sheet_bytes, most_set_bytes};
+ghost use Rattle.session.specs.Output.{most_sheet_bytes};
 ghost use Rattle.session.specs.Passes.{out_bytes};
-ghost use Rattle.session.specs.Opening.{kinds_read};
 ghost use Rattle.session.specs.Ending.{Proceeds, RepeatsTo};
 
 use crate::opening::open;
-use files::{large_buffer, open_read, read_full, write_all};
+use files::{LONG, open_read, read_full};
 use session::{KINDS_READ, Opened, SETS_READ, Sheet};
 use session_pass::pass;
 use std::io::Read;
 use std::rt::Files;
 use text::{SHEET, Seen};
 
-// "over 200 rows" is refused, so 200 rows are all that is ever looked at.
-fn sheet_buffer() -> [u8; SHEET]
-    ensures { most_sheet_bytes ≡ length result }
+// One part more of a file, seen; none where there was none.
+fn see_part(file: &mut impl Read, x: Seen) -> Option<Seen>
+    ensures { IfSome result (λ y. Continued x y) }
 {
-    [0; SHEET]
-}
-
-fn kinds_buffer() -> [u8; KINDS_READ]
-    ensures { kinds_read ≡ length result }
-{
-    [0; KINDS_READ]
-}
-
-// One byte more than a set file may have.
-fn set_buffer() -> [u8; SETS_READ]
-    ensures { most_set_bytes + 1 ≡ length result }
-{
-    [0; SETS_READ]
-}
-
-// One part more of a file, seen; `more` tells whether there was one.
-#[derive(Clone, Copy)]
-pub struct Part {
-    pub more: bool,
-    pub seen: Seen,
-}
-
-fn see_part(file: &mut impl Read, x: Seen) -> Part
-    ensures { Continued x result.seen }
-{
-    let mut chunk = large_buffer();
-    let n = read_full(file, &mut chunk);
-    Part {
-        more: 0 < n,
-        seen: text_read::scan::scan(x, &chunk[..n]),
+    let mut part = [0u8; LONG];
+    let n = read_full(file, &mut part);
+    if n == 0 {
+        return None;
     }
+    Some(text_read::scan::scan(x, &part[..n]))
 }
 
-// More turns than a file has parts.
-const MOST_TURNS: u64 = 18446744073709551615;
-
-// The rest of a file, seen.
+// The rest of a file, seen, up to the part behind its last. The count bounds what no file reaches.
 fn see_rest(file: &mut impl Read, x: Seen) -> Seen
     ensures { Continued x result }
 {
-    let mut turns = MOST_TURNS;
     let mut y = x;
-    while 0 < turns {
-        let part = see_part(file, y);
-        y = part.seen;
-        if !part.more {
-            return y;
-        }
-        turns -= 1;
+    for _ in 0..u64::MAX {
+        let Some(more) = see_part(file, y) else {
+            break;
+        };
+        y = more;
     }
     y
 }
@@ -104,7 +71,7 @@ fn load<R: Files>(files: &R, path: &[u8], buf: &mut [u8]) -> usize
 {
     match open_read(files, path) {
         Some(mut file) => read_full(&mut file, buf),
-        None => files::count(0, buf),
+        None => 0,
     }
 }
 
@@ -124,20 +91,22 @@ fn repeat(
 {
     let mut stage = opened.stage;
     let mut printed = stage.printed;
-    write_all(rt, &out[..printed]);
+    let _ = rt.write_all(&out[..printed]);
     while 0 < stage.remaining {
         stage = pass(mem, sets, kinds, stage, out);
         printed = stage.printed;
-        write_all(rt, &out[..printed]);
+        let _ = rt.write_all(&out[..printed]);
     }
 }
 
+// The paths are bytes, since those of a list of runs are: one that is no text is that of a missing file.
 pub fn run<R: Files + Print>(rt: &R, formula: &[u8], kinds: &[u8], file: &[u8]) {
-    let mut first = sheet_buffer();
-    let mut line = kinds_buffer();
-    let mut sets = set_buffer();
-    let mut mem = large_buffer();
-    let mut out = large_buffer();
+    // "over 200 rows" is refused, so 200 rows are all that is ever looked at.
+    let mut first = [0u8; SHEET];
+    let mut line = [0u8; KINDS_READ];
+    let mut sets = [0u8; SETS_READ];
+    let mut mem = [0u8; LONG];
+    let mut out = [0u8; LONG];
     let sheet = read_sheet(rt, formula, &mut first);
     let told = load(rt, kinds, &mut line);
     let n = load(rt, file, &mut sets);

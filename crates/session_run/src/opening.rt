@@ -7,7 +7,7 @@ ghost use Rattle.machine_layout.specs.Layout.{need, size_of};
 
 use formula::Refusal;
 use session::{CAPACITY, FIRINGS, Opened, SET_FILE, Stage};
-use text::{HEAD_LINE, Lines, REFUSAL_LINE, SHEET, Seen};
+use text::{HEAD_LINE, REFUSAL_LINE, SHEET, Seen};
 
 // A refusal is the whole output.
 fn refused(number: u32, row: u32, end: usize, out: &mut [u8]) -> Opened
@@ -43,17 +43,17 @@ pub fn open(
 {
     let end = sets.len();
     if !text_read::scan::seen_laid_out(seen) {
-        return refused(formula::refusal_number(Refusal::Layout), 0, end, out);
+        return refused(u32::from(Refusal::Layout), 0, end, out);
     }
     if SHEET < seen.length {
-        return refused(formula::refusal_number(Refusal::Rows), 0, end, out);
+        return refused(u32::from(Refusal::Rows), 0, end, out);
     }
     let a = machine_start::start(first, line, CAPACITY, mem);
     if a.refusal != 0 {
         return refused(a.refusal, a.row, end, out);
     }
     if SET_FILE < end {
-        return refused(formula::refusal_number(Refusal::SetFile), 0, end, out);
+        return refused(u32::from(Refusal::SetFile), 0, end, out);
     }
     let inputs = a.inputs as usize;
     judge(&line[..inputs], a.results, sets, out)
@@ -67,13 +67,8 @@ fn judge(kinds: &[u8], results: u32, sets: &[u8], out: &mut [u8]) -> Opened
 {
     let inputs = kinds.len();
     match text_read::sets::count_sets(sets, kinds) {
-        Lines::Bad(line) => refused(
-            formula::refusal_number(Refusal::Set),
-            line as u32,
-            sets.len(),
-            out,
-        ),
-        Lines::Sets(n) => {
+        Err(line) => refused(u32::from(Refusal::Set), line as u32, sets.len(), out),
+        Ok(n) => {
             let count = n as u32;
             text_print::put_head(out, inputs as u32, results, count);
             let stage = Stage {

@@ -1,14 +1,10 @@
 -- The operators of a row's node from its own and those of the rows that it names.
-use Prim.Native.Nat.{ℕ, zero, suc, ◌+◌, ◌*◌, ◌-◌, ◌^◌, ◌≤◌, ◌<◌}
+use Prim.Native.Nat.{ℕ, ◌+◌, ◌-◌, ◌^◌, ◌≤◌, ◌<◌}
 use mathlib.Core.Path.{◌≡◌, refl, sym, ap, subst, ◌∙◌}
-use mathlib.Core.Bool.{Bool, true, false, not, cond, ◌&&◌, ◌||◌, false≢true}
-use mathlib.Core.List.{List, [], ◌∷◌, map}
+use mathlib.Core.Bool.{Bool, true, false, cond, ◌&&◌, ◌||◌, false≢true}
 use native.Mathlib.Omega.{arith}
-use native.Mathlib.Decide.{ℕ_discrete}
 use lib.Bits.{bit_and, bit_or}
 use lib.Count.{ones}
-use lib.Dec.{eqb, leb}
-use borrow.Author.Tests.{ne_eqb}
 use Rattle.names.specs.Names.{Names, mask, one, union, common, without, range, trigger, size}
 use Rattle.names.proofs.Sets.{mask_one, mask-range, mask-or, mask-and, mask-without, ones-mask}
 use Rattle.formula.specs.declared.Shape.{Shape}
@@ -20,13 +16,11 @@ use Rattle.formula.specs.Widths.{width, returned, iterated}
 use Rattle.formula.specs.Free.{free_e, free_b}
 use Rattle.formula.specs.Count.{Count, ◌⊕◌, gates, copies, joins, returns, iterates, count_e, count_b}
 use Rattle.formula.proofs.CountLaws.{pair-count, operator-count, let-count, if-count, for-count, ret-count, iter-count, body-let-count, body-if-count}
-use Rattle.formula.specs.Tests.{occurrences}
-use Rattle.formula.specs.TreeLaws.{AllBetween}
 use Rattle.sheet_count.specs.declared.count.Own.{Own}
 use Rattle.sheet_tables.specs.Nodes.{returned_in, iterated_in, free_in, count_in}
-use Rattle.sheet_tables.specs.Masks.{trigger_mask, range_mask, outside, plain_mask, Ranged}
+use Rattle.sheet_tables.specs.Masks.{trigger_mask, outside, plain_mask, Ranged}
 use Rattle.sheet_tables.specs.Ends.{ends_of, ends_in}
-use Rattle.sheet_count.specs.Counts.{own, sharing, exp_if, for_own, body_if, ended, both_iterate, one_returns, plain_own, body_own, own_by, own_operators, total, named_total, Small}
+use Rattle.sheet_count.specs.Counts.{own, sharing, exp_if, for_own, body_if, ended, both_iterate, one_returns, plain_own, body_own, own_by, own_operators, named_total, Small}
 use Rattle.sheet_tables.proofs.NodeLaws.{node_by, Parts}
 use Rattle.sheet_tables.proofs.LoopLaws.{Loops, ends-iterates, ends-returns}
 

@@ -1,12 +1,12 @@
 -- Test 10 by tables: a row's counts from the entries of the rows that it names, a part has no more operators than the
 -- whole, and so a row over 1,024 decides.
-use Prim.Native.Nat.{ℕ, zero, suc, ◌+◌, ◌*◌, ◌-◌, ◌≤◌, ◌<◌}
+use Prim.Native.Nat.{ℕ, zero, suc, ◌+◌, ◌-◌, ◌≤◌, ◌<◌}
 use mathlib.Core.Path.{◌≡◌, refl, sym, ap, subst, ◌∙◌}
 use mathlib.Core.Bool.{Bool, true, false, cond}
 use mathlib.Core.List.{List, [], ◌∷◌, map}
 use native.Mathlib.Omega.{arith}
 use native.Mathlib.Decide.{ℕ_discrete}
-use lib.Dec.{eqb, leb}
+use lib.Dec.{eqb}
 use lib.ListN.{length, get_or, set, take, replicate}
 use lib.Seq.{get_or-set_same, get_or-set_other}
 use borrow.Author.Tests.{ne_eqb, le-leb, lt-leb}
@@ -14,23 +14,21 @@ use Rattle.names.specs.Names.{mask}
 use Rattle.formula.specs.declared.Shape.{Shape}
 use Rattle.formula.specs.declared.Shape.TheVariants.{Identifier, Constant, Pair, Operator, Let, If, For, Iter}
 use Rattle.formula.specs.Sheet.{shape_at, named_in}
-use Rattle.formula.specs.Tree.{Exp, Body, exp_of, body_of}
-use Rattle.formula.specs.Places.{Node, expression, body, node_in, is_in_body, places_of}
-use Rattle.formula.specs.Count.{Count, count_e, count_b}
+use Rattle.formula.specs.Tree.{exp_of, body_of}
+use Rattle.formula.specs.Places.{Node, node_in, is_in_body}
 use Rattle.formula.specs.Tests.{occurrences, operators_of}
 use Rattle.formula.specs.TreeLaws.{AllBetween}
-use Rattle.formula.specs.PlaceLaws.{Namer}
 use Rattle.formula.proofs.PlaceLaws.{namer, last-place}
 use Rattle.sheet_count.specs.declared.count.Own.{Own}
-use Rattle.sheet_count.specs.declared.count.Total.TheVariants.{Within, Over}
+use Rattle.std.specs.Prelude.{Some, None}
 use Rattle.sheet_tables.specs.Nodes.{node_at, returned_in, iterated_in, free_in, count_in, Holds}
 use Rattle.sheet_tables.specs.Ready.{Ready}
 use Rattle.sheet_count.specs.Filled.{Filled}
-use Rattle.sheet_tables.specs.Masks.{plain_mask, Ranged}
+use Rattle.sheet_tables.specs.Masks.{plain_mask}
 use Rattle.sheet_tables.specs.Ends.{ends_in}
 use Rattle.sheet_tables.specs.Loops.{loops_of}
 use Rattle.sheet_count.specs.Counts.{plain_own, body_own, own_by, own_operators, total, named_total, count_at, total_of}
-use Rattle.sheet_tables.proofs.NodeLaws.{node_by, Parts, node_at_lem, parts_at}
+use Rattle.sheet_tables.proofs.NodeLaws.{node_at_lem, parts_at}
 use Rattle.sheet_tables.proofs.MaskLaws.{ranged-at}
 use Rattle.sheet_tables.proofs.LoopLaws.{loops-at, loops_of-length}
 use Rattle.sheet_count.proofs.CountLaws.{Counted, counted}
@@ -139,13 +137,13 @@ module _ (t : List ℕ) (n : ℕ) (p : List Bool) (ok : Ready t n p) where
       let e : is_in_body p n ≡ false = ap (λ (q : List Bool). is_in_body q n) ok.places ∙ last-place t n ok.sound.named h in
       ap (λ (b : Bool). (count_in (get_or (loops_of t p (λ k. returned_in (node_at t p k)) n) (n - 1) 0) (node_in b t n)).operators) e
 
-  pub over : (x : ℕ) → 1 ≤ x → x ≤ n → 1024 < (count_at t p n x).operators → Over ≡ total_of (operators_of t n)
+  pub over : (x : ℕ) → 1 ≤ x → x ≤ n → 1024 < (count_at t p n x).operators → None ≡ total_of (operators_of t n)
   over x a b h =
       let i = part-whole n x a b (omega arith) in
       let e = last-count (omega arith) in
       rw (lt-leb (operators_of t n) 1024 (omega arith)) refl
 
-  pub within : 1 ≤ n → (k : ℕ) → k ≡ (count_at t p n n).operators → k ≤ 1024 → Within k ≡ total_of (operators_of t n)
+  pub within : 1 ≤ n → (k : ℕ) → k ≡ (count_at t p n n).operators → k ≤ 1024 → Some k ≡ total_of (operators_of t n)
   within a k d h = let e = d ∙ last-count a in rw (sym e, le-leb k 1024 h) refl
 
 module _ (t : List ℕ) (n : ℕ) (p : List Bool) (w m ret it f : List ℕ) (ok : Filled t n p w m ret it f) where

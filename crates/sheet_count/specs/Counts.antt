@@ -1,6 +1,6 @@
 -- Document 01, "The graph", and test 10, for tables: the operators of a row's own, by the masks, widths and ends of the rows
 -- that it names. What the rows below it have is added to these.
-use Rattle.std.specs.Prelude.{ℕ, zero, suc, ◌+◌, ◌*◌, ◌-◌, ◌^◌, ◌≤◌, Bool, true, false, not, cond, ◌&&◌, ◌||◌, List, [], ◌∷◌, map, eqb, leb, get_or}
+use Rattle.std.specs.Prelude.{ℕ, ◌+◌, ◌-◌, ◌≤◌, Bool, true, false, not, cond, ◌&&◌, ◌||◌, List, [], ◌∷◌, map, eqb, leb, get_or, Option, Some, None}
 use Rattle.std.specs.Int.Bits.{bit_and, bit_or}
 use Rattle.std.specs.Int.Count.{ones}
 use Rattle.formula.specs.declared.Shape.{Shape}
@@ -8,8 +8,6 @@ use Rattle.formula.specs.declared.Shape.TheVariants.{Identifier, Constant, Pair,
 use Rattle.formula.specs.Sheet.{named_in}
 use Rattle.formula.specs.Count.{Count}
 use Rattle.sheet_count.specs.declared.count.Own.{Own}
-use Rattle.sheet_count.specs.declared.count.Total.{Total}
-use Rattle.sheet_count.specs.declared.count.Total.TheVariants.{Within, Over}
 use Rattle.sheet_tables.specs.Nodes.{node_at, returned_in, count_in}
 use Rattle.sheet_tables.specs.Loops.{loops_of}
 use Rattle.sheet_tables.specs.Masks.{trigger_mask, outside, plain_mask}
@@ -104,5 +102,5 @@ abbrev pub count_at : List ℕ → List Bool → ℕ → ℕ → Count
 count_at t p n r = count_in (get_or (loops_of t p (λ k. returned_in (node_at t p k)) n) (r - 1) 0) (node_at t p r)
 
 -- Test 10: "over 1,024 operators".
-abbrev pub total_of : ℕ → Total
-total_of k = cond (leb k 1024) (Within k) Over
+abbrev pub total_of : ℕ → Option ℕ
+total_of k = cond (leb k 1024) (Some k) None

@@ -11,11 +11,11 @@ ghost use Rattle.sheet_tables.specs.Ready.{Ready, Noded};
 
 use formula::Shape;
 use names::{TRIGGER_MASK, count};
-use sheet_fields::blank;
-use sheet_fields::shape::{shape_at, width_at};
-use sheet_tables::ends::{ITERATES, end_at, find_ends};
+use sheet_fields::layout::MOST_ROWS;
+use sheet_fields::shape::{entry, shape_at};
+use sheet_tables::ends::{ITERATES, find_ends};
 use sheet_tables::loops::find_loops;
-use sheet_tables::masks::{mask_at, outside, plain_mask};
+use sheet_tables::masks::{outside, plain_mask};
 
 // The operators of a row's own: gates with one output, two-way copies, and IC gates.
 #[derive(Clone, Copy)]
@@ -23,13 +23,6 @@ pub struct Own {
     pub gates: u32,
     pub copies: u32,
     pub joins: u32,
-}
-
-// What test 10 says: the operators of the formula, or that they are too many.
-#[derive(Clone, Copy)]
-pub enum Total {
-    Within(u32),
-    Over,
 }
 
 const MOST_OPERATORS: u32 = 1024;
@@ -52,12 +45,6 @@ fn sharing(a: u64, b: u64) -> u32
     count(a & b)
 }
 
-fn less_one(k: u32) -> u32
-    ensures { (result ≡ k - 1) × (result ≤ k) }
-{
-    if k == 0 { 0 } else { k - 1 }
-}
-
 fn if_copies(x: u64, y: u64, z: u64) -> u32
     ensures { (result ≡ if_copies x y z) × (result ≤ 128) }
 {
@@ -75,7 +62,7 @@ fn exp_if(x: u64, y: u64, z: u64, w: u32) -> Own
     ensures { (result ≡ exp_if x y z w) × (Small 1000 result) }
 {
     let g = arm_gates(y, z) + w;
-    simple(g, if_copies(x, y, z) + less_one(g))
+    simple(g, if_copies(x, y, z) + g.saturating_sub(1))
 }
 
 fn for_own(x: u64, y: u64, a: u32, b: u32) -> Own
@@ -83,25 +70,19 @@ fn for_own(x: u64, y: u64, a: u32, b: u32) -> Own
     ensures { (result ≡ for_own x y a b) × (Small 1000 result) }
 {
     let g = count(y);
-    simple(g, sharing(x, outside(y, a, b)) + less_one(g))
+    simple(g, sharing(x, outside(y, a, b)) + g.saturating_sub(1))
 }
 
 fn both_iterate(e: u8, f: u8) -> bool
     ensures { result ≡ both_iterate e f }
 {
-    if e < ITERATES {
-        return false;
-    }
-    ITERATES <= f
+    ITERATES <= e && ITERATES <= f
 }
 
 fn one_returns(e: u8, f: u8) -> bool
     ensures { result ≡ one_returns e f }
 {
-    if e != ITERATES {
-        return true;
-    }
-    f != ITERATES
+    e != ITERATES || f != ITERATES
 }
 
 fn when(b: bool, k: u32) -> u32
@@ -119,33 +100,33 @@ fn body_if(x: u64, y: u64, z: u64, v: u32, w: u32, e: u8, f: u8) -> Own
     let g = arm_gates(y, z);
     Own {
         gates: g + when(both, v) + when(one_returns(e, f), w),
-        copies: if_copies(x, y, z) + g + when(both, less_one(v)) + less_one(w),
+        copies: if_copies(x, y, z) + g + when(both, v.saturating_sub(1)) + w.saturating_sub(1),
         joins: 1,
     }
 }
 
 // The operators of row r's own, of shape s, read as an expression.
+#[tactic(auto, unfolding(crate::specs::Counts::plain_own, formula::specs::Sheet::named_in))]
 fn plain_own(s: Shape, r: usize, masks: &[u64], returned: &[u8]) -> Own
     requires { (AllBetween r (named_in s)) × (Ranged s) × (r ≤ length masks.now + 1) × (r ≤ length returned.now + 1) }
     ensures { (result ≡ plain_own (λ k. get_or masks.now (k - 1) 0) (λ k. get_or returned.now (k - 1) 0) s) × (Small 1000 result) }
 {
     match s {
         Shape::Identifier(_) => simple(0, 0),
-        Shape::Constant(_, _) => simple(1, 0),
-        Shape::Pair(a, b) => simple(0, sharing(mask_at(masks, a), mask_at(masks, b))),
-        Shape::Operator(_, _) => simple(1, 0),
+        Shape::Constant(_, _) | Shape::Operator(_, _) => simple(1, 0),
+        Shape::Pair(a, b) => simple(0, sharing(entry(masks, a), entry(masks, b))),
         Shape::Let(a, b, c, d) => simple(
             0,
-            sharing(mask_at(masks, c), outside(mask_at(masks, d), a, b)),
+            sharing(entry(masks, c), outside(entry(masks, d), a, b)),
         ),
         Shape::If(a, b, c) => exp_if(
-            mask_at(masks, a),
-            mask_at(masks, b),
-            mask_at(masks, c),
-            width_at(returned, b) as u32,
+            entry(masks, a),
+            entry(masks, b),
+            entry(masks, c),
+            u32::from(entry(returned, b)),
         ),
-        Shape::For(a, b, c, d) => for_own(mask_at(masks, c), mask_at(masks, d), a, b),
-        Shape::Iter(a) => simple(1, sharing(TRIGGER_MASK, mask_at(masks, a))),
+        Shape::For(a, b, c, d) => for_own(entry(masks, c), entry(masks, d), a, b),
+        Shape::Iter(a) => simple(1, sharing(TRIGGER_MASK, entry(masks, a))),
     }
 }
 
@@ -162,6 +143,7 @@ fn ended(o: Own, m: u64) -> Own
 }
 
 // The operators of row r's own, of shape s, in its place; w is the loop's returned width.
+#[tactic(auto, unfolding(crate::specs::Counts::own_by, crate::specs::Counts::body_own, formula::specs::Sheet::named_in))]
 fn own_of(
     s: Shape,
     r: usize,
@@ -180,46 +162,37 @@ fn own_of(
         return plain;
     }
     match s {
-        Shape::Identifier(_) => ended(plain, plain_mask(s, r, masks)),
-        Shape::Constant(_, _) => ended(plain, plain_mask(s, r, masks)),
-        Shape::Pair(_, _) => ended(plain, plain_mask(s, r, masks)),
-        Shape::Operator(_, _) => ended(plain, plain_mask(s, r, masks)),
-        Shape::Let(_, _, _, _) => plain,
+        Shape::Identifier(_)
+        | Shape::Constant(_, _)
+        | Shape::Pair(_, _)
+        | Shape::Operator(_, _)
+        | Shape::For(_, _, _, _) => ended(plain, plain_mask(s, r, masks)),
+        Shape::Let(_, _, _, _) | Shape::Iter(_) => plain,
         Shape::If(a, b, c) => body_if(
-            mask_at(masks, a),
-            mask_at(masks, b),
-            mask_at(masks, c),
-            width_at(iterated, b) as u32,
+            entry(masks, a),
+            entry(masks, b),
+            entry(masks, c),
+            u32::from(entry(iterated, b)),
             w,
-            end_at(ends, b),
-            end_at(ends, c),
+            entry(ends, b),
+            entry(ends, c),
         ),
-        Shape::For(_, _, _, _) => ended(plain, plain_mask(s, r, masks)),
-        Shape::Iter(_) => plain,
     }
 }
 
-fn number_at(counts: &[u32], r: usize) -> u32
-    requires { (1 ≤ r) × (r ≤ length counts.now) }
-    ensures { result ≡ get_or counts.now (r - 1) 0 }
-{
-    counts[r - 1]
-}
-
 // The sum of the entries of the rows that row r names.
+#[tactic(auto, unfolding(crate::specs::Counts::named_total, formula::specs::Sheet::named_in))]
 fn named_total(s: Shape, r: usize, counts: &[u32]) -> u32
     requires { (AllBetween r (named_in s)) × (r ≤ length counts.now + 1) × ((k : ℕ) → get_or counts.now k 0 ≤ 3072) }
     ensures { (result ≡ named_total (λ k. get_or counts.now (k - 1) 0) s) × (result ≤ 9216) }
 {
     match s {
-        Shape::Identifier(_) => 0,
-        Shape::Constant(_, _) => 0,
-        Shape::Pair(a, b) => number_at(counts, a) + number_at(counts, b),
-        Shape::Operator(_, b) => number_at(counts, b),
-        Shape::Let(_, _, c, d) => number_at(counts, c) + number_at(counts, d),
-        Shape::If(a, b, c) => number_at(counts, a) + number_at(counts, b) + number_at(counts, c),
-        Shape::For(_, _, c, d) => number_at(counts, c) + number_at(counts, d),
-        Shape::Iter(a) => number_at(counts, a),
+        Shape::Identifier(_) | Shape::Constant(_, _) => 0,
+        Shape::Operator(_, a) | Shape::Iter(a) => entry(counts, a),
+        Shape::Pair(a, b) | Shape::Let(_, _, a, b) | Shape::For(_, _, a, b) => {
+            entry(counts, a) + entry(counts, b)
+        }
+        Shape::If(a, b, c) => entry(counts, a) + entry(counts, b) + entry(counts, c),
     }
 }
 
@@ -240,20 +213,19 @@ fn count_rows(
     returned: &[u8],
     iterated: &[u8],
     ends: &[u8],
-) -> Total
+) -> Option<u32>
     requires { Filled fields.now n places.now loops.now masks.now returned.now iterated.now ends.now }
     ensures { result ≡ total_of (operators_of fields.now n) }
 {
-    let mut operators = blank::numbers();
-    let mut i = 0;
-    while i < n {
+    let mut operators = [0u32; MOST_ROWS];
+    for i in 0..n {
         let r = i + 1;
         let s = shape_at(fields, r);
         let own = own_of(
             s,
             r,
             places[i],
-            width_at(loops, r) as u32,
+            u32::from(entry(loops, r)),
             masks,
             returned,
             iterated,
@@ -261,12 +233,11 @@ fn count_rows(
         );
         let total = operators_of(own, named_total(s, r, &operators[..i]));
         if MOST_OPERATORS < total {
-            return Total::Over;
+            return None;
         }
         operators[i] = total;
-        i += 1;
     }
-    Total::Within(operators[n - 1])
+    Some(operators[n - 1])
 }
 
 // Test 10 of n rows in these places, with their masks and widths.
@@ -277,13 +248,13 @@ pub fn test_operators(
     returned: &[u8],
     iterated: &[u8],
     masks: &[u64],
-) -> Total
+) -> Option<u32>
     requires { (Ready fields.now n places.now) × (1 ≤ n) × (n ≤ 200) × (Noded fields.now n places.now returned.now iterated.now masks.now) }
     ensures { result ≡ total_of (operators_of fields.now n) }
 {
-    let mut ends = blank::bytes();
+    let mut ends = [0u8; MOST_ROWS];
     find_ends(fields, n, &mut ends[..n]);
-    let mut loops = blank::bytes();
+    let mut loops = [0u8; MOST_ROWS];
     find_loops(fields, n, places, returned, &mut loops[..n]);
     count_rows(
         fields,

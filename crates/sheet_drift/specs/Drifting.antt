@@ -1,12 +1,11 @@
 -- The drift call (document 02, Job 13), as a function from what it is lent to its answer and every byte of the lent memory at its end; sheet, kinds
 -- line and tolerances are lent for reading only. The numbers and the tests behind 10 are sheet_movement's specs/Moves and Sorts. Definitions only;
 -- assumes nothing.
-use Rattle.std.specs.Prelude.{ℕ, List, ltb, length}
+use Rattle.std.specs.Prelude.{ℕ, List, ltb, length, Ok, Err}
 use Rattle.std.proofs.lemmas.List.Edits.{sets}
 use Rattle.value.specs.Operators.{pick}
 use Rattle.formula.specs.declared.Refusal.TheVariants.{Memory}
-use Rattle.formula.specs.declared.Verdict.{Verdict}
-use Rattle.formula.specs.declared.Verdict.TheVariants.{Passed, Refused}
+use Rattle.formula.specs.Results.{Verdict}
 use Rattle.formula.specs.Refusals.{number_of}
 use Rattle.sheet_movement.specs.Moves.{drift_verdict, result_moves, number_bytes}
 use Rattle.sheet_drift.specs.declared.DriftAnswer.{DriftAnswer}
@@ -24,9 +23,9 @@ answers refusal row results = record { refusal = refusal; row = row; results = r
 -- "how far each result can move", a number a result from the start of the lent memory; a refusal leaves every byte
 unfoldable pub by_verdict : Verdict → List ℕ → List ℕ → List ℕ → Handed
 unfolding result_moves number_bytes
-by_verdict Passed s tolerances out =
+by_verdict (Ok _) s tolerances out =
     handed (answers 0 0 (length (result_moves s tolerances))) (sets out 0 (number_bytes (result_moves s tolerances)))
-by_verdict (Refused r row) s tolerances out = handed (answers (number_of r) row 0) out
+by_verdict (Err why) s tolerances out = handed (answers (number_of why.refusal) why.row 0) out
 
 -- 11 where sixteen numbers have no room, then the sheet's, 20 and 21
 unfoldable pub drifted_into : List ℕ → List ℕ → List ℕ → List ℕ → Handed

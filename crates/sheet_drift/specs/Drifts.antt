@@ -1,8 +1,7 @@
 -- The formulas that drift is told for (sheet_movement's specs/Drifts), row by row: a row of such a tree names rows of such trees, a row has as many
 -- numbers as values, and a sheet that passes 20 has such a formula.
-use Rattle.std.specs.Prelude.{ℕ, ◌≡◌, true, List, length}
+use Rattle.std.specs.Prelude.{ℕ, ◌≡◌, true, List, length, Ok}
 use Rattle.std.proofs.Common.{sym, ◌∙◌, subst}
-use Rattle.formula.specs.declared.Check.TheVariants.{Passed}
 use Rattle.formula.specs.declared.Shape.{Shape}
 use Rattle.formula.specs.declared.Shape.TheVariants.{Identifier, Constant, Pair, Operator, Let, If, For, Iter}
 use Rattle.formula.specs.Sheet.{shape_at}
@@ -55,6 +54,6 @@ moves-counted t ws r h d moves = (exp-facts t ws r h).1 ∙ sym (moves-width (ex
 
 -- ---- what 20 leaves
 
-pub kept-drifts : (t ws : List ℕ) (n : ℕ) (line : List ℕ) → ExpRow t ws n → sorts_kept t n line ≡ Passed → Drifts (exp_of t n)
+pub kept-drifts : (t ws : List ℕ) (n : ℕ) (line : List ℕ) → ExpRow t ws n → sorts_kept t n line ≡ Ok tt → Drifts (exp_of t n)
 unfolding sorts_kept kind_check
 kept-drifts t ws n line h e = faultless-drifts t h.rows h.accepted.named n h.low h.high _ (none-lowest _ e)

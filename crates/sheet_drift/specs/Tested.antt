@@ -1,18 +1,15 @@
 -- 20 and 21 of an accepted sheet's rows, as the call makes them behind the reader's tests; and what the reader's tables give them. Assumes what the reader
 -- promises (sheet_read's specs/Reading).
-use Rattle.std.specs.Prelude.{ℕ, ◌*◌, ◌-◌, ◌≤◌, ◌≡◌, Bool, ◌&&◌, length, take, get_or}
+use Rattle.std.specs.Prelude.{ℕ, ◌*◌, ◌-◌, ◌≤◌, ◌≡◌, Bool, ◌&&◌, length, take, get_or, Ok, Err}
 use Rattle.std.proofs.Math.Path.{refl, sym, ap}
 use Rattle.std.proofs.Common.{◌∙◌, subst, arith}
 use Rattle.std.proofs.Math.Bool.{true, false}
 use mathlib.Core.List.{List, []}
 use Rattle.std.proofs.lemmas.List.Edits.{sets}
 use Rattle.names.specs.Names.{mask}
-use Rattle.formula.specs.declared.Check.{Check}
-use Rattle.formula.specs.declared.Check.TheVariants.{Passed, Fault}
+use Rattle.formula.specs.Results.{Check, Verdict, refused}
 use Rattle.formula.specs.declared.Refusal.{Refusal}
 use Rattle.formula.specs.declared.Refusal.TheVariants.{Sort, Movement}
-use Rattle.formula.specs.declared.Verdict.{Verdict}
-use Rattle.formula.specs.declared.Verdict.TheVariants.{Passed as passed, Refused}
 use Rattle.formula.specs.Refusals.{number_of}
 use Rattle.formula.specs.Sheet.{row_count, fields_of}
 use Rattle.formula.specs.Tree.{Exp, exp_of, formula_of}
@@ -51,22 +48,22 @@ last_moves t n tolerances = moves_e (exp_of t n) (input_moves (free_e (exp_of t 
 -- The answer and the lent bytes by what they say.
 unfoldable pub by_rows : Verdict → List ℕ → List ℕ → Handed
 unfolding number_bytes
-by_rows passed ds out = handed (answers 0 0 (length ds)) (sets out 0 (number_bytes ds))
-by_rows (Refused r row) ds out = handed (answers (number_of r) row 0) out
+by_rows (Ok _) ds out = handed (answers 0 0 (length ds)) (sets out 0 (number_bytes ds))
+by_rows (Err why) ds out = handed (answers (number_of why.refusal) why.row 0) out
 
 -- ---- each ending of the tests
 
 module _ (t : List ℕ) (n : ℕ) (line tolerances : List ℕ) where
-  pub fault-sort : (r : ℕ) → sorts_kept t n line ≡ Fault r → Refused Sort r ≡ rows_verdict t n line tolerances
+  pub fault-sort : (r : ℕ) → sorts_kept t n line ≡ Err r → refused Sort r ≡ rows_verdict t n line tolerances
   unfolding rows_verdict verdict_by after_check drift_tests
   fault-sort r e = rw e refl
 
-  module _ (kept : sorts_kept t n line ≡ Passed) (k : ℕ) (count : k ≡ length (inputs_of (exp_of t n))) where
-    decided : (b : Bool) → movements_fit t n tolerances ≡ b → rows_verdict t n line tolerances ≡ after_check Movement (whole b) passed
+  module _ (kept : sorts_kept t n line ≡ Ok tt) (k : ℕ) (count : k ≡ length (inputs_of (exp_of t n))) where
+    decided : (b : Bool) → movements_fit t n tolerances ≡ b → rows_verdict t n line tolerances ≡ after_check Movement (whole b) (Ok tt)
     unfolding rows_verdict verdict_by after_check drift_tests
     decided b e = rw (kept, e) refl
 
-    pub fault-tolerances : tolerances_well k tolerances ≡ false → Refused Movement 0 ≡ rows_verdict t n line tolerances
+    pub fault-tolerances : tolerances_well k tolerances ≡ false → refused Movement 0 ≡ rows_verdict t n line tolerances
     unfolding movements_fit after_check
     fault-tolerances e =
         sym (decided false
@@ -78,16 +75,16 @@ module _ (t : List ℕ) (n : ℕ) (line tolerances : List ℕ) where
       by-moves =
           ap (λ (b : Bool). b && fits_e (exp_of t n) (input_moves (free_e (exp_of t n)) tolerances)) (ap (λ (j : ℕ). tolerances_well j tolerances) (sym count) ∙ well)
 
-      pub fault-moves : fits_e (exp_of t n) (input_moves (free_e (exp_of t n)) tolerances) ≡ false → Refused Movement 0 ≡ rows_verdict t n line tolerances
+      pub fault-moves : fits_e (exp_of t n) (input_moves (free_e (exp_of t n)) tolerances) ≡ false → refused Movement 0 ≡ rows_verdict t n line tolerances
       unfolding after_check
       fault-moves e = sym (decided false (by-moves ∙ e))
 
-      pub tests-pass : fits_e (exp_of t n) (input_moves (free_e (exp_of t n)) tolerances) ≡ true → passed ≡ rows_verdict t n line tolerances
+      pub tests-pass : fits_e (exp_of t n) (input_moves (free_e (exp_of t n)) tolerances) ≡ true → Ok tt ≡ rows_verdict t n line tolerances
       unfolding after_check
       tests-pass e = sym (decided true (by-moves ∙ e))
 
 -- A row at fault is one of the sheet's.
-sort-low : (t ws : List ℕ) (n : ℕ) → ExpRow t ws n → (line : List ℕ) (r : ℕ) → sorts_kept t n line ≡ Fault r → r ≤ n
+sort-low : (t ws : List ℕ) (n : ℕ) → ExpRow t ws n → (line : List ℕ) (r : ℕ) → sorts_kept t n line ≡ Err r → r ≤ n
 unfolding sorts_kept
 sort-low t ws n h line r e = (lowest-broken drifting t n (up_to t h.rows n h.high h.accepted.named) _ r e).last
   where
@@ -95,32 +92,32 @@ sort-low t ws n h line r e = (lowest-broken drifting t n (up_to t h.rows n h.hig
     up_to t m n l k = record { names = λ r i j. k.names r i (omega arith) }
 
 row_in : Verdict → ℕ
-row_in passed = 0
-row_in (Refused r row) = row
+row_in (Ok _) = 0
+row_in (Err why) = why.row
 
 pub low-fault : (t ws : List ℕ) (n : ℕ) → ExpRow t ws n → (line tolerances : List ℕ) (r : Refusal) (row : ℕ)
-    → rows_verdict t n line tolerances ≡ Refused r row → row ≤ n
+    → rows_verdict t n line tolerances ≡ refused r row → row ≤ n
 unfolding rows_verdict verdict_by after_check drift_tests row_in
 low-fault t ws n h line tolerances r row e = go (sorts_kept t n line) refl (movements_fit t n tolerances) e
   where
-    go : (c : Check) → sorts_kept t n line ≡ c → (b : Bool) → after_check Sort c (after_check Movement (whole b) passed) ≡ Refused r row → row ≤ n
-    go Passed p true f = let z : 0 ≡ row = ap row_in f in omega arith
-    go Passed p false f = let z : 0 ≡ row = ap row_in f in omega arith
-    go (Fault k) p b f = let z : k ≡ row = ap row_in f in omega (arith, sort-low t ws n h line k p)
+    go : (c : Check) → sorts_kept t n line ≡ c → (b : Bool) → after_check Sort c (after_check Movement (whole b) (Ok tt)) ≡ refused r row → row ≤ n
+    go (Ok _) p true f = let z : 0 ≡ row = ap row_in f in omega arith
+    go (Ok _) p false f = let z : 0 ≡ row = ap row_in f in omega arith
+    go (Err k) p b f = let z : k ≡ row = ap row_in f in omega (arith, sort-low t ws n h line k p)
 
 -- A sheet that passes has as many numbers as its last row has values.
-pub numbers-counted : (t ws : List ℕ) (n : ℕ) → ExpRow t ws n → (line tolerances : List ℕ) → rows_verdict t n line tolerances ≡ passed
+pub numbers-counted : (t ws : List ℕ) (n : ℕ) → ExpRow t ws n → (line tolerances : List ℕ) → rows_verdict t n line tolerances ≡ Ok tt
     → W ws n ≡ length (last_moves t n tolerances)
 unfolding rows_verdict verdict_by after_check drift_tests last_moves
 numbers-counted t ws n h line tolerances e = moves-counted t ws n h (kept-drifts t ws n line h (go (sorts_kept t n line) e)) (input_moves (free_e (exp_of t n)) tolerances)
   where
-    go : (c : Check) → after_check Sort c (after_check Movement (whole (movements_fit t n tolerances)) passed) ≡ passed → c ≡ Passed
-    go Passed f = refl
-    go (Fault k) f = absurd (let z : ◌≡◌ {A = ℕ} 0 1 = cc f in omega arith)
+    go : (c : Check) → after_check Sort c (after_check Movement (whole (movements_fit t n tolerances)) (Ok tt)) ≡ Ok tt → c ≡ Ok tt
+    go (Ok _) f = refl
+    go (Err k) f = absurd (let z : ◌≡◌ {A = ℕ} 0 1 = cc f in omega arith)
 
 -- ---- the reader's tables
 
-module _ (s line : List ℕ) (x : Tables) (told : Told s line x) (well : x.verdict ≡ passed) where
+module _ (s line : List ℕ) (x : Tables) (told : Told s line x) (well : x.verdict ≡ Ok tt) where
   ok : Accepts s x
   ok = told.accepts well
 
@@ -170,7 +167,7 @@ module _ (s line : List ℕ) (x : Tables) (told : Told s line x) (well : x.verdi
     moves-are = ap (λ (z : Exp). moves_e z (input_moves (free_e z) tolerances)) formula-is
 
 -- A sheet that the reader refuses.
-pub verdict-first : (s line tolerances : List ℕ) (r : Refusal) (row : ℕ) → verdict_of s line ≡ Refused r row → drift_verdict s line tolerances ≡ Refused r row
+pub verdict-first : (s line tolerances : List ℕ) (r : Refusal) (row : ℕ) → verdict_of s line ≡ refused r row → drift_verdict s line tolerances ≡ refused r row
 unfolding drift_verdict verdict_of
 verdict-first s line tolerances r row e =
     then-behind (sheet_of s) (tests line) (drift_tests line tolerances)

@@ -5,9 +5,8 @@
 pub mod moves; // moves.rt: the numbers of each row's values
 pub mod numbers; // numbers.rt: tolerances and numbers as bytes
 
-ghost use Rattle.std.specs.Prelude.{◌≡◌, ◌≤◌, length};
+ghost use Rattle.std.specs.Prelude.{◌≡◌, ◌≤◌, length, Ok};
 ghost use Rattle.std.proofs.lemmas.List.Edits.{sets};
-ghost use Rattle.formula.specs.declared.Verdict.TheVariants.{Passed as passed};
 ghost use Rattle.formula.specs.Refusals.{number_of};
 ghost use Rattle.sheet_drift.specs.Drifting.{handed, answers, drifted_into};
 ghost use Rattle.sheet_drift.specs.Tested.{Tabled, rows_verdict, last_moves, by_rows};
@@ -15,11 +14,10 @@ ghost use Rattle.sheet_drift.specs.Tested.{Tabled, rows_verdict, last_moves, by_
 use crate::moves::row_moves;
 use crate::numbers::{NUMBER_BYTES, in_order, tolerances_well, write_numbers};
 use eval_words::inputs::inputs_in;
-use formula::{Check, Refusal, Verdict, refusal_number};
-use sheet_fields::blank;
-use sheet_fields::layout::ROW_BYTES;
-use sheet_fields::shape::{FIELDS, width_at};
-use sheet_read::read::{Tested, fill_tables};
+use formula::{Refusal, Refused, at_row};
+use sheet_fields::layout::{MOST_ROWS, ROW_BYTES};
+use sheet_fields::shape::{FIELDS, MOST_FIELDS, width_at};
+use sheet_read::read::fill_tables;
 use sheet_sorts::walk::test_sorts;
 
 // The answer: document 01's number of a refusal, 0 where accepted; its row; how many results there are, a number each.
@@ -41,7 +39,7 @@ fn refused(r: Refusal, row: u32) -> DriftAnswer
     ensures { result ≡ answers (number_of r) row 0 }
 {
     DriftAnswer {
-        refusal: refusal_number(r),
+        refusal: u32::from(r),
         row,
         results: 0,
     }
@@ -56,25 +54,26 @@ fn drift_tests(
     line: &[u8],
     tolerances: &[u8],
     numbers: &mut [u32],
-) -> Verdict
+) -> Result<(), Refused>
     requires { Tabled fields.now widths.now n free line.now × (length numbers.old ≡ 16) }
     ensures { (result ≡ rows_verdict fields.now n line.now tolerances.now)
-        × (result ≡ passed → numbers.new ≡ sets numbers.old 0 (last_moves fields.now n tolerances.now)) }
+        × (result ≡ Ok tt → numbers.new ≡ sets numbers.old 0 (last_moves fields.now n tolerances.now)) }
 {
-    match test_sorts(fields, widths, n, free, line) {
-        Check::Fault(r) => {
-            return Verdict::Refused(Refusal::Sort, r);
-        }
-        Check::Passed => {}
-    }
+    at_row(Refusal::Sort, test_sorts(fields, widths, n, free, line))?;
     if !tolerances_well(tolerances, inputs_in(free)) {
-        return Verdict::Refused(Refusal::Movement, 0);
+        return Err(Refused {
+            refusal: Refusal::Movement,
+            row: 0,
+        });
     }
     let env = in_order(free, tolerances);
     if !row_moves(fields, widths, n, &env, numbers, 0) {
-        return Verdict::Refused(Refusal::Movement, 0);
+        return Err(Refused {
+            refusal: Refusal::Movement,
+            row: 0,
+        });
     }
-    Verdict::Passed
+    Ok(())
 }
 
 // The answer for these rows; the numbers of the last row's values are written to the start of `out` where they pass.
@@ -92,8 +91,8 @@ fn drift_rows(
 {
     let mut numbers = [0; MOST_RESULTS];
     match drift_tests(fields, widths, n, free, line, tolerances, &mut numbers) {
-        Verdict::Refused(r, row) => refused(r, row as u32),
-        Verdict::Passed => {
+        Err(Refused { refusal, row }) => refused(refusal, row as u32),
+        Ok(()) => {
             let results = width_at(widths, n);
             write_numbers(&numbers, results, out);
             DriftAnswer {
@@ -112,13 +111,13 @@ pub fn drift(sheet: &[u8], line: &[u8], tolerances: &[u8], out: &mut [u8]) -> Dr
     if out.len() < NEED {
         return refused(Refusal::Memory, 0);
     }
-    let mut fields = blank::fields();
-    let mut widths = blank::bytes();
-    let mut masks = blank::words();
+    let mut fields = [0u32; MOST_FIELDS];
+    let mut widths = [0u8; MOST_ROWS];
+    let mut masks = [0u64; MOST_ROWS];
     let tested = fill_tables(sheet, line, &mut fields, &mut widths, &mut masks);
     match tested {
-        Tested::Refused(r, row) => refused(r, row as u32),
-        Tested::Passed(_) => {
+        Err(Refused { refusal, row }) => refused(refusal, row as u32),
+        Ok(_) => {
             let n = sheet.len() / ROW_BYTES;
             let end = FIELDS * n;
             let last = n - 1;

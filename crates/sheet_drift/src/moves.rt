@@ -55,7 +55,7 @@ fn moved(t: &[u32], code: u32, b: usize, d: u64, e: u64) -> u64
     }
 }
 
-// Puts a number in its place where it does not pass the greatest, and says so.
+// Puts a number in its place where it does not pass the greatest, and says so. An Option would be no plainer: the place is the caller's.
 fn put_within(out: &mut [u32], at: usize, number: u64) -> bool
     requires { at < length out.old }
     ensures { (result ≡ leb number 2147483647) × (result ≡ true → out.new ≡ set out.old at number) }
@@ -89,10 +89,8 @@ pub fn row_moves(
             true
         }
         Shape::Pair(a, b) => {
-            if !row_moves(t, widths, a, env, out, at) {
-                return false;
-            }
-            row_moves(t, widths, b, env, out, at + width_at(widths, a))
+            row_moves(t, widths, a, env, out, at)
+                && row_moves(t, widths, b, env, out, at + width_at(widths, a))
         }
         Shape::Operator(code, b) => {
             let mut operands = [0; 2];

@@ -5,6 +5,7 @@ ghost use Rattle.sheet_movement.specs.Moves.{number_at, tolerances_well, number_
 ghost use Rattle.sheet_drift.specs.Numbers.{InOrder};
 
 use eval_words::inputs::next;
+use sheet_fields::shape::IDENTIFIERS;
 
 // The bytes of a number.
 pub const NUMBER_BYTES: usize = 4;
@@ -12,39 +13,26 @@ pub const NUMBER_BYTES: usize = 4;
 // The greatest number.
 pub const MOST: u64 = 2147483647;
 
-// The number of identifiers.
-const IDENTIFIERS: usize = 32;
-
-// How many values a byte has.
-const VALUES: u32 = 256;
-
-// What the second, third and fourth byte of a number count.
-const SECOND: u32 = 256;
-
-const THIRD: u32 = 65536;
-
-const FOURTH: u32 = 16777216;
-
 // A byte, 0 where there is none.
-fn byte_at(s: &[u8], at: usize) -> u32
-    ensures { (result ≡ get_or s.now at 0) × (result < 256) }
+fn byte_at(s: &[u8], at: usize) -> u8
+    ensures { result ≡ get_or s.now at 0 }
 {
-    if s.len() <= at {
-        return 0;
-    }
-    s[at] as u32
+    s.get(at).copied().unwrap_or(0)
 }
 
 // Number i of some bytes.
+#[tactic(auto, unfolding(sheet_movement::specs::Moves::number_at))]
 fn number_at(s: &[u8], i: usize) -> u32
     requires { i ≤ 64 }
     ensures { result ≡ number_at s.now (4 * i) }
 {
     let at = NUMBER_BYTES * i;
-    byte_at(s, at)
-        + SECOND * byte_at(s, at + 1)
-        + THIRD * byte_at(s, at + 2)
-        + FOURTH * byte_at(s, at + 3)
+    u32::from_le_bytes([
+        byte_at(s, at),
+        byte_at(s, at + 1),
+        byte_at(s, at + 2),
+        byte_at(s, at + 3),
+    ])
 }
 
 // Whether there is a tolerance in range for each input, and no more.
@@ -55,12 +43,10 @@ pub fn tolerances_well(s: &[u8], inputs: usize) -> bool
     if s.len() != NUMBER_BYTES * inputs {
         return false;
     }
-    let mut i = 0;
-    while i < inputs {
-        if MOST < number_at(s, i) as u64 {
+    for i in 0..inputs {
+        if MOST < u64::from(number_at(s, i)) {
             return false;
         }
-        i += 1;
     }
     true
 }
@@ -70,24 +56,20 @@ pub fn in_order(free: u64, s: &[u8]) -> [u32; IDENTIFIERS]
     ensures { InOrder s.now free result 32 }
 {
     let mut env = [0; IDENTIFIERS];
-    let mut k = 0;
     let mut i = 0;
-    while k < IDENTIFIERS {
+    for k in 0..IDENTIFIERS {
         env[k] = number_at(s, i);
         i = next(free, k, i);
-        k += 1;
     }
     env
 }
 
+#[tactic(auto, unfolding(sheet_movement::specs::Moves::number_bytes))]
 fn put_number(out: &mut [u8], at: usize, d: u32)
     requires { at + 4 ≤ length out.old }
     ensures { out.new ≡ sets out.old at (number_bytes (d ∷ [])) }
 {
-    out[at] = (d % VALUES) as u8;
-    out[at + 1] = (d / SECOND % VALUES) as u8;
-    out[at + 2] = (d / THIRD % VALUES) as u8;
-    out[at + 3] = (d / FOURTH % VALUES) as u8;
+    out[at..at + NUMBER_BYTES].copy_from_slice(&d.to_le_bytes());
 }
 
 // The first n numbers, from the start of `out` on.
@@ -95,9 +77,7 @@ pub fn write_numbers(numbers: &[u32], n: usize, out: &mut [u8])
     requires { (n ≤ length numbers.now) × (4 * n ≤ length out.old) }
     ensures { out.new ≡ sets out.old 0 (number_bytes (take n numbers.now)) }
 {
-    let mut i = 0;
-    while i < n {
+    for i in 0..n {
         put_number(out, NUMBER_BYTES * i, numbers[i]);
-        i += 1;
     }
 }

@@ -7,19 +7,18 @@ ghost use Rattle.formula.specs.SheetLaws.{line_fields};
 ghost use Rattle.formula.specs.Tests.{fields_well, lowest, line_at, well_formed};
 ghost use Rattle.sheet_fields.specs.Decoding.{seen};
 
-use crate::field::{NOT_SHORT, field_in, formed, number, short};
+use crate::field::{NOT_SHORT, field_in, short};
 use crate::layout::ROW_BYTES;
 use crate::shape::FIELDS;
-use formula::{Check, Field};
 
 // Where a row's fields a to d begin.
-const A_AT: usize = 6;
+pub const A_AT: usize = 6;
 
-const B_AT: usize = 12;
+pub const B_AT: usize = 12;
 
-const C_AT: usize = 18;
+pub const C_AT: usize = 18;
 
-const D_AT: usize = 24;
+pub const D_AT: usize = 24;
 
 // Writes the five numbers of row i + 1, and says whether each is well formed.
 fn long_row(s: &[u8], i: usize, fields: &mut [u32]) -> bool
@@ -31,30 +30,24 @@ fn long_row(s: &[u8], i: usize, fields: &mut [u32]) -> bool
     let b = field_in(s, ROW_BYTES * i + B_AT);
     let c = field_in(s, ROW_BYTES * i + C_AT);
     let d = field_in(s, ROW_BYTES * i + D_AT);
-    fields[FIELDS * i] = number(kind);
-    fields[FIELDS * i + 1] = number(a);
-    fields[FIELDS * i + 2] = number(b);
-    fields[FIELDS * i + 3] = number(c);
-    fields[FIELDS * i + 4] = number(d);
+    fields[FIELDS * i] = kind.unwrap_or(0);
+    fields[FIELDS * i + 1] = a.unwrap_or(0);
+    fields[FIELDS * i + 2] = b.unwrap_or(0);
+    fields[FIELDS * i + 3] = c.unwrap_or(0);
+    fields[FIELDS * i + 4] = d.unwrap_or(0);
     all_formed(kind, a, b, c, d)
 }
 
-fn all_formed(kind: Field, a: Field, b: Field, c: Field, d: Field) -> bool
+fn all_formed(
+    kind: Option<u32>,
+    a: Option<u32>,
+    b: Option<u32>,
+    c: Option<u32>,
+    d: Option<u32>,
+) -> bool
     ensures { result ≡ (well_formed kind && well_formed a && well_formed b && well_formed c && well_formed d) }
 {
-    if !formed(kind) {
-        return false;
-    }
-    if !formed(a) {
-        return false;
-    }
-    if !formed(b) {
-        return false;
-    }
-    if !formed(c) {
-        return false;
-    }
-    formed(d)
+    kind.is_some() && a.is_some() && b.is_some() && c.is_some() && d.is_some()
 }
 
 // The same, quickly where the numbers are short.
@@ -91,16 +84,14 @@ fn decode_row(s: &[u8], i: usize, fields: &mut [u32]) -> bool
 }
 
 // Test 3 of the n rows of s. The rows up to the first fault are in the table.
-pub fn decode(s: &[u8], n: usize, fields: &mut [u32]) -> Check
+pub fn decode(s: &[u8], n: usize, fields: &mut [u32]) -> Result<(), usize>
     requires { (n ≡ row_count s.now) × (5 * n ≤ length fields.old) }
     ensures { (result ≡ lowest n (fields_well (lines_of s.now))) × (fields.new ≡ paste fields.old 0 (fields_of s.now) (5 * seen n result)) }
 {
-    let mut i = 0;
-    while i < n {
+    for i in 0..n {
         if !decode_row(s, i, fields) {
-            return Check::Fault(i + 1);
+            return Err(i + 1);
         }
-        i += 1;
     }
-    Check::Passed
+    Ok(())
 }

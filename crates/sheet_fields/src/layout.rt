@@ -6,9 +6,9 @@ ghost use Rattle.formula.specs.Tests.{laid_out, lowest, ended_at, is-passed, few
 // A row's bytes, its line feed the last, and the most rows.
 pub const ROW_BYTES: usize = 31;
 
-const LINE_FEED_AT: usize = 30;
+pub const LINE_FEED_AT: usize = 30;
 
-const LINE_FEED: u8 = 10;
+pub const LINE_FEED: u8 = b'\n';
 
 pub const MOST_ROWS: usize = 200;
 
@@ -17,27 +17,20 @@ fn rows_ended(s: &[u8], n: usize) -> bool
     requires { n ≡ row_count s.now }
     ensures { result ≡ is-passed (lowest n (ended_at (lines_of s.now))) }
 {
-    let mut i = 0;
-    while i < n {
+    for i in 0..n {
         if s[ROW_BYTES * i + LINE_FEED_AT] != LINE_FEED {
             return false;
         }
-        i += 1;
     }
     true
 }
 
 // Test 1.
+#[tactic(auto, unfolding(formula::specs::Tests::laid_out))]
 pub fn laid_out(s: &[u8]) -> bool
     ensures { result ≡ laid_out s.now (lines_of s.now) }
 {
-    if s.len() == 0 {
-        return false;
-    }
-    if s.len() % ROW_BYTES != 0 {
-        return false;
-    }
-    rows_ended(s, s.len() / ROW_BYTES)
+    !s.is_empty() && s.len() % ROW_BYTES == 0 && rows_ended(s, s.len() / ROW_BYTES)
 }
 
 // Test 2.

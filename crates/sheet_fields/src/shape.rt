@@ -3,10 +3,16 @@ ghost use Rattle.std.specs.Prelude.{◌≡◌, ℕ, ◌+◌, ◌*◌, ◌-◌, �
 ghost use Rattle.formula.specs.Sheet.{field, shape_at, shape_of};
 ghost use Rattle.formula.specs.Ways.{way_of};
 
+use crate::layout::MOST_ROWS;
 use formula::{Shape, Way};
 
-// The fields of a row.
+// The fields of a row, and of the most rows.
 pub const FIELDS: usize = 5;
+
+pub const MOST_FIELDS: usize = FIELDS * MOST_ROWS;
+
+// The identifiers that a row can name.
+pub const IDENTIFIERS: usize = 32;
 
 // Field j of row r, in a table of five fields a row.
 pub fn field_at(fields: &[u32], r: usize, j: usize) -> u32
@@ -16,27 +22,19 @@ pub fn field_at(fields: &[u32], r: usize, j: usize) -> u32
     fields[FIELDS * (r - 1) + j]
 }
 
-// A number of the table as a row's number.
-fn row_number(v: u32) -> usize
-    ensures { result ≡ v }
-{
-    v as usize
-}
-
+#[tactic(auto, unfolding(formula::specs::Sheet::shape_of))]
 fn shape_of(kind: u32, a: u32, b: u32, c: u32, d: u32) -> Shape
     ensures { result ≡ shape_of kind a b c d }
 {
     match kind {
         1 => Shape::Identifier(a),
-        2 => Shape::Constant(kind, a),
-        3 => Shape::Constant(kind, a),
-        4 => Shape::Pair(row_number(a), row_number(b)),
-        5 => Shape::Operator(a, row_number(b)),
-        6 => Shape::Let(a, b, row_number(c), row_number(d)),
-        7 => Shape::If(row_number(a), row_number(b), row_number(c)),
-        8 => Shape::For(a, b, row_number(c), row_number(d)),
-        9 => Shape::Iter(row_number(a)),
-        10 => Shape::Constant(kind, a),
+        2 | 3 | 10 => Shape::Constant(kind, a),
+        4 => Shape::Pair(a as usize, b as usize),
+        5 => Shape::Operator(a, b as usize),
+        6 => Shape::Let(a, b, c as usize, d as usize),
+        7 => Shape::If(a as usize, b as usize, c as usize),
+        8 => Shape::For(a, b, c as usize, d as usize),
+        9 => Shape::Iter(a as usize),
         _ => Shape::Constant(2, 0),
     }
 }
@@ -61,15 +59,23 @@ pub fn way_at(fields: &[u32], r: usize) -> Way
     ensures { result ≡ way_of (shape_at fields.now r) }
 {
     match shape_at(fields, r) {
-        Shape::Identifier(_) => Way::End,
-        Shape::Constant(_, _) => Way::End,
-        Shape::Pair(_, _) => Way::End,
-        Shape::Operator(_, _) => Way::End,
         Shape::Let(a, b, c, d) => Way::Let(a, b, c, d),
         Shape::If(a, b, c) => Way::If(a, b, c),
-        Shape::For(_, _, _, _) => Way::End,
         Shape::Iter(a) => Way::Iter(a),
+        Shape::Identifier(_)
+        | Shape::Constant(_, _)
+        | Shape::Pair(_, _)
+        | Shape::Operator(_, _)
+        | Shape::For(_, _, _, _) => Way::End,
     }
+}
+
+// The entry of row r, in a table of one entry a row.
+pub fn entry<T: Copy>(table: &[T], r: usize) -> T
+    requires { (1 ≤ r) × (r ≤ length table.now) }
+    ensures { (d : T) → result ≡ get_or table.now (r - 1) d }
+{
+    table[r - 1]
 }
 
 // The width of row r, in a table of one byte a row.
@@ -77,5 +83,5 @@ pub fn width_at(widths: &[u8], r: usize) -> usize
     requires { (1 ≤ r) × (r ≤ length widths.now) }
     ensures { (result ≡ get_or widths.now (r - 1) 0) × (result < 256) }
 {
-    widths[r - 1] as usize
+    usize::from(widths[r - 1])
 }

@@ -1,20 +1,19 @@
 -- "lowest row given": what one test says of two lots of rows, from what it says of each. Assumes nothing.
-use Rattle.std.specs.Prelude.{ℕ, ◌≤◌, ◌<◌, ◌≡◌, refl, Bool, true, false, cond, List, [], ◌∷◌, ◌++◌, leb}
+use Rattle.std.specs.Prelude.{ℕ, ◌≤◌, ◌<◌, ◌≡◌, refl, Bool, true, false, cond, List, [], ◌∷◌, ◌++◌, leb, Ok, Err}
 use Rattle.std.proofs.Common.{ap, ◌∙◌, leb-true, leb-false, le-leb, arith}
 use Rattle.std.proofs.lemmas.Bool.{lt-leb}
-use Rattle.formula.specs.declared.Check.{Check}
-use Rattle.formula.specs.declared.Check.TheVariants.{Passed, Fault}
+use Rattle.formula.specs.Results.{Check}
 use Rattle.formula.specs.Faults.{lower, lowest_of}
 
 -- The lower of two rows at fault.
 abbrev pub lesser : Check → Check → Check
-lesser Passed c = c
-lesser (Fault r) c = lower r c
+lesser (Ok _) c = c
+lesser (Err r) c = lower r c
 
 -- A row's own rule, kept or not.
 abbrev pub own : ℕ → Bool → Check
-own r true = Passed
-own r false = Fault r
+own r true = Ok tt
+own r false = Err r
 
 least : ℕ → ℕ → ℕ
 least a b = cond (leb a b) a b
@@ -40,15 +39,15 @@ least-assoc a b c = go (leb a b) refl (leb b c) refl
 
 lesser-assoc : (x y z : Check) → lesser x (lesser y z) ≡ lesser (lesser x y) z
 unfolding least
-lesser-assoc Passed y z = refl
-lesser-assoc (Fault a) Passed z = refl
-lesser-assoc (Fault a) (Fault b) Passed = refl
-lesser-assoc (Fault a) (Fault b) (Fault c) = ap Fault (least-assoc a b c)
+lesser-assoc (Ok _) y z = refl
+lesser-assoc (Err a) (Ok _) z = refl
+lesser-assoc (Err a) (Err b) (Ok _) = refl
+lesser-assoc (Err a) (Err b) (Err c) = ap Err (least-assoc a b c)
 
 pub lowest-append : (xs ys : List ℕ) → lowest_of (xs ++ ys) ≡ lesser (lowest_of xs) (lowest_of ys)
 unfolding lowest_of
 lowest-append [] ys = refl
-lowest-append (x ∷ xs) ys = ap (lower x) (lowest-append xs ys) ∙ lesser-assoc (Fault x) (lowest_of xs) (lowest_of ys)
+lowest-append (x ∷ xs) ys = ap (lower x) (lowest-append xs ys) ∙ lesser-assoc (Err x) (lowest_of xs) (lowest_of ys)
 
 pub lowest-own : (r : ℕ) (ok : Bool) → lowest_of (cond ok [] (r ∷ [])) ≡ own r ok
 unfolding lowest_of

@@ -1,6 +1,6 @@
 -- What a row's kinds and its lowest row at fault are, from those of the rows that it names: one law for each kind of row, so that the
 -- code's proof cites one at each return. Assumes an accepted sheet's row.
-use Rattle.std.specs.Prelude.{ℕ, ◌+◌, ◌≡◌, Bool, cond, ◌&&◌}
+use Rattle.std.specs.Prelude.{ℕ, ◌+◌, ◌≡◌, Bool, cond, ◌&&◌, Ok}
 use Rattle.std.proofs.Math.Path.{refl, sym, ap, subst}
 use Rattle.std.proofs.Common.{◌∙◌}
 use Rattle.std.proofs.Math.Bool.{true, false}
@@ -11,8 +11,7 @@ use Rattle.value.specs.declared.ValueKind.TheVariants.{Truth as truth-kind}
 use Rattle.value.specs.Kinds.{all_of, wanted, wanted_test, given}
 use Rattle.formula.specs.declared.Shape.{Shape}
 use Rattle.formula.specs.declared.Shape.TheVariants.{Identifier, Constant, Pair, Operator, Let, If, For}
-use Rattle.formula.specs.declared.Check.{Check}
-use Rattle.formula.specs.declared.Check.TheVariants.{Passed}
+use Rattle.formula.specs.Results.{Check}
 use Rattle.formula.specs.Sheet.{shape_at}
 use Rattle.formula.specs.Tree.{Exp, exp_node, exp_of, body_of}
 use Rattle.formula.proofs.TreeLaws.{exp-as}
@@ -64,14 +63,14 @@ module _ (t ws : List ℕ) (r : ℕ) (h : ExpRow t ws r) (kinds : Kinds) (at : �
       )
 
   pub tell-identifier : (a b : ℕ) → shape_at t r ≡ Identifier a → kind_of_byte b ≡ kinds a → Written at (kind_of_byte b ∷ []) o o'
-      → Told t r kinds at o o' Passed
+      → Told t r kinds at o o' (Ok tt)
   unfolding kinds_e exp_node kinded_e faults_below lowest_of
-  tell-identifier a b e k w = tell (Identifier a) e (kind_of_byte b ∷ []) Passed (ap (λ (x : ValueKind). x ∷ []) (sym k)) w refl
+  tell-identifier a b e k w = tell (Identifier a) e (kind_of_byte b ∷ []) (Ok tt) (ap (λ (x : ValueKind). x ∷ []) (sym k)) w refl
 
   pub tell-constant : (k a b : ℕ) → shape_at t r ≡ Constant k a → kind_of_byte b ≡ kind_of_constant k → Written at (kind_of_byte b ∷ []) o o'
-      → Told t r kinds at o o' Passed
+      → Told t r kinds at o o' (Ok tt)
   unfolding kinds_e exp_node kinded_e faults_below lowest_of
-  tell-constant k a b e i w = tell (Constant k a) e (kind_of_byte b ∷ []) Passed (ap (λ (x : ValueKind). x ∷ []) (sym i)) w refl
+  tell-constant k a b e i w = tell (Constant k a) e (kind_of_byte b ∷ []) (Ok tt) (ap (λ (x : ValueKind). x ∷ []) (sym i)) w refl
 
   pub tell-pair : (a b n : ℕ) → shape_at t r ≡ Pair a b → n ≡ at + W ws a → (m : List ℕ) (f g : Check)
       → Told t a kinds at o m f → Told t b kinds n m o' g → Told t r kinds at o o' (lesser f g)

@@ -13,7 +13,7 @@ use Rattle.formula.specs.declared.Shape.{Shape}
 use Rattle.formula.specs.declared.Shape.TheVariants.{Identifier, Constant, Pair, Operator, Let, If, For, Iter}
 use Rattle.formula.specs.declared.Way.{Way}
 use Rattle.formula.specs.declared.Way.TheVariants.{Iter as iter-way, Let as let-way, If as if-way, End}
-use Rattle.formula.specs.declared.Check.{Check}
+use Rattle.formula.specs.Results.{Check}
 use Rattle.formula.specs.Sheet.{shape_at}
 use Rattle.formula.specs.Tree.{Body, ret, body_node, exp_of, body_of}
 use Rattle.formula.proofs.TreeLaws.{body-as}

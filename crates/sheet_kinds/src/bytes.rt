@@ -1,6 +1,6 @@
 // Kinds as bytes in lent arrays (specs/Bytes): what an operator wants of its operands' and gives, and how kinds are compared and
 // copied.
-ghost use Rattle.std.specs.Prelude.{◌≡◌, ◌&&◌, [], ◌∷◌, ◌+◌, ◌≤◌, ◌<◌, leb, length};
+ghost use Rattle.std.specs.Prelude.{◌≡◌, ◌&&◌, [], ◌∷◌, ◌+◌, ◌≤◌, ◌<◌, length};
 ghost use Rattle.value.specs.Kinds.{same_kind, all_of, wanted, given};
 ghost use Rattle.formula.specs.Kinds.{kind_of_constant, either_kinds, same_kinds, agree_kinds};
 ghost use Rattle.sheet_kinds.specs.Bytes.{kind_of_byte, kinds_in, stretch, Written};
@@ -27,40 +27,22 @@ const AND: u32 = 8;
 const NOT: u32 = 10;
 
 // The kind of a constant's row.
+#[tactic(auto, unfolding(formula::specs::Kinds::kind_of_constant))]
 pub fn constant_kind(kind: u32) -> u8
     ensures { kind_of_byte result ≡ kind_of_constant kind }
 {
-    if kind == TRUTH_ROW {
-        return TRUTH;
+    match kind {
+        TRUTH_ROW => TRUTH,
+        FLOAT_ROW => REAL,
+        _ => WHOLE,
     }
-    if kind == FLOAT_ROW {
-        return REAL;
-    }
-    WHOLE
 }
 
-pub fn both(a: bool, b: bool) -> bool
-    ensures { result ≡ a && b }
-{
-    if a {
-        return b;
-    }
-    false
-}
-
+#[tactic(auto, unfolding(value::specs::Kinds::same_kind))]
 pub fn same_kind(a: u8, b: u8) -> bool
     ensures { result ≡ same_kind (kind_of_byte a) (kind_of_byte b) }
 {
-    if a == TRUTH {
-        return b == TRUTH;
-    }
-    if b == TRUTH {
-        return false;
-    }
-    if a == REAL {
-        return b == REAL;
-    }
-    b != REAL
+    (a == TRUTH) == (b == TRUTH) && (a == REAL) == (b == REAL)
 }
 
 // Whether the n kinds of `a` from `at` on are the first m of `b`.
@@ -71,12 +53,10 @@ pub fn same_kinds(a: &[u8], at: usize, n: usize, b: &[u8], m: usize) -> bool
     if n != m {
         return false;
     }
-    let mut i = 0;
-    while i < n {
+    for i in 0..n {
         if !same_kind(a[at + i], b[i]) {
             return false;
         }
-        i += 1;
     }
     true
 }
@@ -86,72 +66,48 @@ pub fn all_kinds(k: u8, l: &[u8], n: usize) -> bool
     requires { n ≤ length l.now }
     ensures { result ≡ all_of (kind_of_byte k) (stretch (kinds_in l.now) 0 n) }
 {
-    let mut i = 0;
-    while i < n {
+    for i in 0..n {
         if !same_kind(k, l[i]) {
             return false;
         }
-        i += 1;
     }
     true
 }
 
-// Whether a code is one of those from `first` to `last`.
-fn among(code: u32, first: u32, last: u32) -> bool
-    ensures { result ≡ leb first code && leb code last }
-{
-    if code < first {
-        return false;
-    }
-    code <= last
-}
-
 // Whether the operator of a code wants operands of the first n kinds.
+#[tactic(auto, unfolding(value::specs::Kinds::wanted))]
 pub fn wanted_kinds(code: u32, l: &[u8], n: usize) -> bool
     requires { n ≤ length l.now }
     ensures { result ≡ wanted code (stretch (kinds_in l.now) 0 n) }
 {
-    if among(code, AND, NOT) {
-        return all_kinds(TRUTH, l, n);
+    if matches!(code, AND..=NOT) {
+        all_kinds(TRUTH, l, n)
+    } else {
+        all_kinds(WHOLE, l, n) || code != REMAINDER && all_kinds(REAL, l, n)
     }
-    if all_kinds(WHOLE, l, n) {
-        return true;
-    }
-    if code == REMAINDER {
-        return false;
-    }
-    all_kinds(REAL, l, n)
 }
 
 // The kind that it gives on them.
+#[tactic(auto, unfolding(value::specs::Kinds::given))]
 pub fn given_kind(code: u32, l: &[u8], n: usize) -> u8
     requires { n ≤ length l.now }
     ensures { kind_of_byte result ≡ given code (stretch (kinds_in l.now) 0 n) }
 {
-    if among(code, LESS, NOT) {
-        return TRUTH;
+    match code {
+        LESS..=NOT => TRUTH,
+        REMAINDER => WHOLE,
+        _ if all_kinds(REAL, l, n) => REAL,
+        _ => WHOLE,
     }
-    if code == REMAINDER {
-        return WHOLE;
-    }
-    if all_kinds(REAL, l, n) {
-        return REAL;
-    }
-    WHOLE
 }
 
 // Whether body arms with n and m kinds agree in what both have.
+#[tactic(auto, unfolding(formula::specs::Kinds::agree_kinds))]
 pub fn agree(a: &[u8], n: usize, b: &[u8], m: usize) -> bool
     requires { (n ≤ length a.now) × (m ≤ length b.now) }
     ensures { result ≡ agree_kinds (stretch (kinds_in a.now) 0 n) (stretch (kinds_in b.now) 0 m) }
 {
-    if n == 0 {
-        return true;
-    }
-    if m == 0 {
-        return true;
-    }
-    same_kinds(a, 0, n, b, m)
+    n == 0 || m == 0 || same_kinds(a, 0, n, b, m)
 }
 
 pub fn put_kind(out: &mut [u8], at: usize, k: u8)
@@ -166,11 +122,7 @@ pub fn copy(to: &mut [u8], at: usize, from: &[u8], n: usize)
     requires { (at + n ≤ length to.old) × (n ≤ length from.now) }
     ensures { Written at (stretch (kinds_in from.now) 0 n) to.old to.new }
 {
-    let mut i = 0;
-    while i < n {
-        to[at + i] = from[i];
-        i += 1;
-    }
+    to[at..at + n].copy_from_slice(&from[..n]);
 }
 
 // The n kinds of the first arm hold, where there are some; else the second's m are put in their place. The answer is how many.
@@ -183,11 +135,4 @@ pub fn hold_first(first: &mut [u8], n: usize, second: &[u8], m: usize) -> usize
     }
     copy(first, 0, second, m);
     m
-}
-
-// An environment's kinds, to be bound anew.
-pub fn copied(env: &[u8; 32]) -> [u8; 32]
-    ensures { result ≡ env.now }
-{
-    *env
 }

@@ -6,13 +6,11 @@ pub mod checks; // checks.rt: the lowest row at fault
 pub mod line; // line.rt: the kinds line
 pub mod walk; // walk.rt: the kinds of each row's values, and the rows that break them
 
-use formula::Check;
-
 // What is told of a body: the lowest row at fault, and how many kinds it starts the next round with and returns; 0 where it does not
 // have them.
 #[derive(Clone, Copy)]
 pub struct BodyKinds {
-    pub fault: Check,
+    pub fault: Result<(), usize>,
     pub again: usize,
     pub back: usize,
 }

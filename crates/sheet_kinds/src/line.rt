@@ -14,13 +14,9 @@ ghost use Rattle.sheet_kinds.specs.Line.{Tells};
 use crate::bytes::{REAL, TRUTH, WHOLE};
 use crate::walk::exp_kinds;
 use eval_words::inputs::next;
-use formula::Check;
+use sheet_fields::layout::LINE_FEED;
+use sheet_fields::shape::IDENTIFIERS;
 use value::bytes::{REAL_LETTER, TRUTH_LETTER};
-
-const LINE_FEED: u8 = 10;
-
-// The number of identifiers.
-const IDENTIFIERS: usize = 32;
 
 // Whether a line has a letter for each input, then a line feed, and no more.
 pub fn kinds_line(line: &[u8], inputs: usize) -> bool
@@ -32,12 +28,10 @@ pub fn kinds_line(line: &[u8], inputs: usize) -> bool
     if line.len() - inputs != 1 {
         return false;
     }
-    let mut i = 0;
-    while i < inputs {
+    for i in 0..inputs {
         if !value::bytes::is_letter(line[i]) {
             return false;
         }
-        i += 1;
     }
     line[inputs] == LINE_FEED
 }
@@ -46,16 +40,11 @@ pub fn kinds_line(line: &[u8], inputs: usize) -> bool
 fn kind_at(line: &[u8], i: usize) -> u8
     ensures { kind_of_byte result ≡ kind_of_letter (get_or line.now i 0) }
 {
-    if line.len() <= i {
-        return WHOLE;
+    match line.get(i) {
+        Some(&TRUTH_LETTER) => TRUTH,
+        Some(&REAL_LETTER) => REAL,
+        _ => WHOLE,
     }
-    if line[i] == TRUTH_LETTER {
-        return TRUTH;
-    }
-    if line[i] == REAL_LETTER {
-        return REAL;
-    }
-    WHOLE
 }
 
 // The identifiers in the mask, rising, get the line's kinds in its order.
@@ -63,18 +52,16 @@ pub fn tell_kinds(env: &mut [u8], m: u64, line: &[u8])
     requires { length env.old ≡ 32 }
     ensures { Tells line.now m env.new 32 }
 {
-    let mut k = 0;
     let mut i = 0;
-    while k < IDENTIFIERS {
+    for k in 0..IDENTIFIERS {
         env[k] = kind_at(line, i);
         i = next(m, k, i);
-        k += 1;
     }
 }
 
 // Row n as the formula, whose free names are the mask `free`: the lowest row that breaks the kinds under those that a line tells its
 // inputs.
-pub fn test_kinds(t: &[u32], widths: &[u8], n: usize, free: u64, line: &[u8]) -> Check
+pub fn test_kinds(t: &[u32], widths: &[u8], n: usize, free: u64, line: &[u8]) -> Result<(), usize>
     requires { ExpRow t.now widths.now n × (free ≡ mask (free_e (exp_of t.now n))) × (line_well (length (inputs_of (exp_of t.now n))) line.now ≡ true) }
     ensures { result ≡ kind_check kinded t.now n (input_kinds (free_e (exp_of t.now n)) line.now) }
 {

@@ -11,12 +11,11 @@ ghost use Rattle.sheet_kinds.specs.WalkBody.{ToldB};
 
 use crate::BodyKinds;
 use crate::bytes::{
-    TRUTH, agree, all_kinds, both, constant_kind, copied, copy, given_kind, hold_first, put_kind,
-    same_kinds, wanted_kinds,
+    TRUTH, agree, all_kinds, constant_kind, copy, given_kind, hold_first, put_kind, same_kinds,
+    wanted_kinds,
 };
 use crate::checks::{lower, own};
-use eval_words::words::wide;
-use formula::{Check, Shape, Way};
+use formula::{Shape, Way};
 use sheet_fields::shape::{shape_at, way_at, width_at};
 
 // Row r as an expression: the kinds of its values go to the bytes of `out` from `at` on, the answer is the lowest row at fault
@@ -29,18 +28,18 @@ pub fn exp_kinds(
     env: &[u8; 32],
     out: &mut [u8],
     at: usize,
-) -> Check
+) -> Result<(), usize>
     requires { ExpRow t.now widths.now r × (length env.now ≡ 32) × (at + W widths.now r ≤ length out.old) }
     ensures { Told t.now r (kinds_in env.now) at out.old out.new result }
 {
     match shape_at(t, r) {
         Shape::Identifier(a) => {
             put_kind(out, at, env[a as usize]);
-            Check::Passed
+            Ok(())
         }
         Shape::Constant(kind, _) => {
             put_kind(out, at, constant_kind(kind));
-            Check::Passed
+            Ok(())
         }
         Shape::Pair(a, b) => {
             let first = exp_kinds(t, widths, a, env, out, at);
@@ -49,15 +48,15 @@ pub fn exp_kinds(
         }
         Shape::Operator(code, b) => codes(t, widths, r, code, b, env, out, at),
         Shape::Let(a, _, c, d) => {
-            let mut inner = copied(env);
-            let bound = exp_kinds(t, widths, c, env, &mut inner, wide(a));
+            let mut inner = *env;
+            let bound = exp_kinds(t, widths, c, env, &mut inner, a as usize);
             let rest = exp_kinds(t, widths, d, &inner, out, at);
             lower(bound, rest)
         }
         Shape::If(a, b, c) => ifs(t, widths, r, a, b, c, env, out, at),
-        Shape::For(a, b, c, d) => fors(t, widths, r, wide(a), wide(b), c, d, env, out, at),
+        Shape::For(a, b, c, d) => fors(t, widths, r, a as usize, b as usize, c, d, env, out, at),
         // no such row is handed in
-        Shape::Iter(_) => Check::Passed,
+        Shape::Iter(_) => Ok(()),
     }
 }
 
@@ -72,7 +71,7 @@ fn codes(
     env: &[u8; 32],
     out: &mut [u8],
     at: usize,
-) -> Check
+) -> Result<(), usize>
     requires { ExpRow t.now widths.now r × (length env.now ≡ 32) × (at + W widths.now r ≤ length out.old) × (shape_at t.now r ≡ Shape.Operator code b) }
     ensures { Told t.now r (kinds_in env.now) at out.old out.new result }
 {
@@ -96,7 +95,7 @@ fn ifs(
     env: &[u8; 32],
     out: &mut [u8],
     at: usize,
-) -> Check
+) -> Result<(), usize>
     requires { ExpRow t.now widths.now r × (length env.now ≡ 32) × (at + W widths.now r ≤ length out.old) × (shape_at t.now r ≡ Shape.If a b c) }
     ensures { Told t.now r (kinds_in env.now) at out.old out.new result }
 {
@@ -106,7 +105,7 @@ fn ifs(
     let mut other = [0; 16];
     let second = exp_kinds(t, widths, c, env, &mut other, 0);
     let alike = same_kinds(out, at, width_at(widths, b), &other, width_at(widths, c));
-    let ok = both(all_kinds(TRUTH, &test, 1), alike);
+    let ok = all_kinds(TRUTH, &test, 1) && alike;
     lower(own(r, ok), lower(tested, lower(first, second)))
 }
 
@@ -123,11 +122,11 @@ fn fors(
     env: &[u8; 32],
     out: &mut [u8],
     at: usize,
-) -> Check
+) -> Result<(), usize>
     requires { ExpRow t.now widths.now r × (length env.now ≡ 32) × (at + W widths.now r ≤ length out.old) × (shape_at t.now r ≡ Shape.For a b c d) }
     ensures { Told t.now r (kinds_in env.now) at out.old out.new result }
 {
-    let mut inner = copied(env);
+    let mut inner = *env;
     let started = exp_kinds(t, widths, c, env, &mut inner, a);
     let mut again = [0; 16];
     let mut back = [0; 16];
@@ -158,8 +157,8 @@ fn body_kinds(
             back: 0,
         },
         Way::Let(a, _, c, d) => {
-            let mut inner = copied(env);
-            let bound = exp_kinds(t, widths, c, env, &mut inner, wide(a));
+            let mut inner = *env;
+            let bound = exp_kinds(t, widths, c, env, &mut inner, a as usize);
             let rest = body_kinds(t, widths, d, &inner, again, back);
             let below = rest.fault;
             BodyKinds {
@@ -201,7 +200,7 @@ fn arms(
     let second = body_kinds(t, widths, c, env, &mut again2, &mut back2);
     let rounds = agree(again, first.again, &again2, second.again);
     let ends = agree(back, first.back, &back2, second.back);
-    let ok = both(both(all_kinds(TRUTH, &test, 1), rounds), ends);
+    let ok = all_kinds(TRUTH, &test, 1) && rounds && ends;
     let fault1 = first.fault;
     let fault2 = second.fault;
     BodyKinds {

@@ -1,13 +1,12 @@
 -- What a small sheet's table has, row by row (document 02, Job 14: "passes tests 1 to 9, kinds lines left aside, with at most 5 rows, row kinds 1 to 9,
 -- identifiers and constants 0 and 1"). Assumes nothing.
-use Rattle.std.specs.Prelude.{ℕ, ◌-◌, ◌≤◌, ◌≡◌, refl, Bool, true, false, ◌&&◌, length}
+use Rattle.std.specs.Prelude.{ℕ, ◌-◌, ◌≤◌, ◌≡◌, refl, Bool, true, false, ◌&&◌, length, Ok, Err}
 use Rattle.std.proofs.lemmas.Bool.{false≢true}
 use mathlib.Core.List.{List, ◌++◌, flatten}
 use Rattle.std.proofs.Common.{arith}
 use Rattle.std.proofs.Math.Dec.{leb}
 use borrow.Author.Tests.{eqb-true}
-use Rattle.formula.specs.declared.Verdict.{Verdict}
-use Rattle.formula.specs.declared.Verdict.TheVariants.{Passed, Refused}
+use Rattle.formula.specs.Results.{Verdict}
 use Rattle.formula.specs.Sheet.{row_count, fields_of}
 use Rattle.formula.specs.Places.{places_of}
 use Rattle.formula.specs.Tests.{is-passed, lowest, occurrences, all_named, named_once, ranges_well, names_well, placed_well, widths_well, bound_well, sheet_of, row_tests, formula_tests, verdict_by}
@@ -35,9 +34,9 @@ pub record Passing (t : List ℕ) (n : ℕ) : Type 0 where
   pub bound : (r : ℕ) → 1 ≤ r → r ≤ n → bound_well t (places_of t n) r ≡ true
   pub modest : (r : ℕ) → 1 ≤ r → r ≤ n → modest_row t r ≡ true
 
-is-pass : (v : Verdict) → is_passed v ≡ true → v ≡ Passed
-is-pass Passed h = refl
-is-pass (Refused r row) h = absurd (false≢true h)
+is-pass : (v : Verdict) → is_passed v ≡ true → v ≡ Ok tt
+is-pass (Ok _) h = refl
+is-pass (Err why) h = absurd (false≢true h)
 
 pub not-small : (s : List ℕ) → (is_small s ≡ true → ⊥) → is_small s ≡ false
 not-small s h = go (is_small s) refl

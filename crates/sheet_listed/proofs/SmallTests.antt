@@ -1,15 +1,12 @@
 -- Whether n small rows are a small sheet is a matter of their table alone: test 5, and tests 6 to 9 as the reader makes them.
-use Rattle.std.specs.Prelude.{ℕ, ◌-◌, ◌≤◌, ◌≡◌, Bool, false, ◌&&◌, length, get_or}
+use Rattle.std.specs.Prelude.{ℕ, ◌-◌, ◌≤◌, ◌≡◌, Bool, false, ◌&&◌, length, get_or, Ok, Err}
 use Rattle.std.proofs.Math.Path.{refl, ap}
 use Rattle.std.proofs.Common.{◌∙◌, arith}
 use Rattle.std.proofs.Math.Bool.{true}
 use mathlib.Core.List.{List, [], flatten}
 use Rattle.std.proofs.Math.Dec.{leb}
 use borrow.Author.Tests.{le-leb}
-use Rattle.formula.specs.declared.Check.{Check}
-use Rattle.formula.specs.declared.Check.TheVariants.{Passed as well, Fault}
-use Rattle.formula.specs.declared.Verdict.{Verdict}
-use Rattle.formula.specs.declared.Verdict.TheVariants.{Passed}
+use Rattle.formula.specs.Results.{Check, Verdict}
 use Rattle.formula.specs.Sheet.{row_count, fields_of, field, shape_at, named_in}
 use Rattle.formula.specs.Places.{places_of}
 use Rattle.formula.specs.Tests.{is-passed, lowest, ranges_well, names_well, sheet_of, row_tests, formula_tests, verdict_by, all_between}
@@ -89,7 +86,7 @@ module _ (rs : Rows) (h : RowsListed (length rs) rs) (some : 1 ≤ length rs) (f
       }
 
   -- Where tests 1 to 5 pass, 6 to 9 decide.
-  nine : row_verdict s ≡ Passed → passes_nine s ≡ is_passed (verdict_by formula_tests (rows_in t (places_of t n) n))
+  nine : row_verdict s ≡ Ok tt → passes_nine s ≡ is_passed (verdict_by formula_tests (rows_in t (places_of t n) n))
   unfolding passes_nine row_verdict
   nine e =
       ap is_passed
@@ -104,13 +101,13 @@ module _ (rs : Rows) (h : RowsListed (length rs) rs) (some : 1 ≤ length rs) (f
   unfolding is_small
   by-nine =
       let e : leb (row_count s) 5 ≡ true = le-leb (row_count s) 5 (omega (arith, text-rows rs written)) in
-      let m : lowest (row_count s) (modest_row (fields_of s)) ≡ well = rw (text-fields rs written, text-rows rs written) (each-passed n (modest_row t) modestly) in
+      let m : lowest (row_count s) (modest_row (fields_of s)) ≡ Ok tt = rw (text-fields rs written, text-rows rs written) (each-passed n (modest_row t) modestly) in
       rw (e, m) (and_both (passes_nine s))
 
   pub small-by-tests : is_small s ≡ (is-passed (lowest n (names_well t)) && is_passed (verdict_by formula_tests (rows_in t (places_of t n) n)))
   small-by-tests = go (lowest n (names_well t)) refl
     where
       go : (c : Check) → lowest n (names_well t) ≡ c → is_small s ≡ (is-passed c && is_passed (verdict_by formula_tests (rows_in t (places_of t n) n)))
-      go well e = by-nine ∙ nine (rowwise-passes s (rowwise (passed-each n (names_well t) e)))
-      go (Fault r) e =
+      go (Ok _) e = by-nine ∙ nine (rowwise-passes s (rowwise (passed-each n (names_well t) e)))
+      go (Err r) e =
           not-small s (λ small. absurd (let z : ◌≡◌ {A = ℕ} 0 1 = cc (e, each-passed n (names_well t) (written-passing rs written small).names) in omega arith))

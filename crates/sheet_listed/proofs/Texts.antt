@@ -1,14 +1,11 @@
 -- Laws of specs/Texts.antt, and what only they need.
-use Rattle.std.specs.Prelude.{ℕ, zero, suc, ◌+◌, ◌*◌, ◌-◌, ◌≤◌, ◌<◌, ◌≡◌, true, ◌&&◌, List, [], ◌∷◌, ◌++◌, map, ltb, length, get_or, take, drop}
+use Rattle.std.specs.Prelude.{ℕ, zero, suc, ◌+◌, ◌*◌, ◌-◌, ◌≤◌, ◌<◌, ◌≡◌, true, ◌&&◌, List, [], ◌∷◌, ◌++◌, map, ltb, length, get_or, take, drop, Ok, Err}
 use Rattle.std.proofs.Math.Path.{refl}
 use Rattle.std.proofs.Common.{sym, ap, ◌∙◌, length-drop, take-append-drop, length-take-le, get_or-take, get_or-drop, drop-drop, arith}
 use Rattle.std.proofs.lemmas.Bool.{false≢true}
 use Rattle.std.proofs.Math.Dec.{leb}
 use borrow.Author.Tests.{eqb-true, leb-true, ltb-true, lt-ltb}
-use Rattle.formula.specs.declared.Check.{Check}
-use Rattle.formula.specs.declared.Check.TheVariants.{Passed as well, Fault}
-use Rattle.formula.specs.declared.Verdict.{Verdict}
-use Rattle.formula.specs.declared.Verdict.TheVariants.{Passed, Refused}
+use Rattle.formula.specs.Results.{Check, Verdict}
 use Rattle.formula.specs.Sheet.{row_count, lines_in, lines_of, fields_in, fields_of, field, shape_at, named_in}
 use Rattle.formula.specs.SheetLaws.{line_fields}
 use Rattle.formula.proofs.SheetLaws.{fields-length}
@@ -98,17 +95,17 @@ rowwise-text s ok = sym (ap sheet_text (rows-by-line s) ∙ lines-printed (row_c
         (rw e at f, eqb-true (get_or (get_or (lines_in (row_count s) s) i []) 30 0) 10 (rw e at g))
 
 -- ---- what a small sheet has
-passed-nine : (s : List ℕ) → passes_nine s ≡ true → row_verdict s ≡ Passed
+passed-nine : (s : List ℕ) → passes_nine s ≡ true → row_verdict s ≡ Ok tt
 unfolding passes_nine row_verdict
 passed-nine s h = go (verdict_by row_tests (sheet_of s)) refl (ap is_passed (sym (then-behind (sheet_of s) row_tests formula_tests)) ∙ h)
   where
-    go : (v : Verdict) → verdict_by row_tests (sheet_of s) ≡ v → is_passed (then v (verdict_by formula_tests (sheet_of s))) ≡ true → verdict_by row_tests (sheet_of s) ≡ Passed
-    go Passed e i = e
-    go (Refused r row) e i = absurd (false≢true i)
+    go : (v : Verdict) → verdict_by row_tests (sheet_of s) ≡ v → is_passed (then v (verdict_by formula_tests (sheet_of s))) ≡ true → verdict_by row_tests (sheet_of s) ≡ Ok tt
+    go (Ok _) e i = e
+    go (Err why) e i = absurd (false≢true i)
 
-is-well : (c : Check) → is-passed c ≡ true → c ≡ well
-is-well well h = refl
-is-well (Fault r) h = absurd (false≢true h)
+is-well : (c : Check) → is-passed c ≡ true → c ≡ Ok tt
+is-well (Ok _) h = refl
+is-well (Err r) h = absurd (false≢true h)
 
 pub small-has : (s : List ℕ) → is_small s ≡ true → SmallSheet s
 unfolding is_small

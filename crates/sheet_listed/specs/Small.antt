@@ -1,11 +1,10 @@
 -- Document 02, Job 14: the small sheets and the list of them. A sheet of the list "passes tests 1 to 9, kinds lines left aside, with at most 5 rows, row
 -- kinds 1 to 9, identifiers and constants 0 and 1, and any code. Fewer rows come first, then rising bytes." The list is a definition to speak of; it is
 -- never computed. Definitions only; assumes nothing.
-use Rattle.std.specs.Prelude.{ℕ, zero, suc, ◌+◌, ◌≡◌, Bool, true, false, cond, ◌&&◌, ◌||◌, List, [], ◌∷◌, ◌++◌, map, eqb, leb, ltb, length, get_or}
+use Rattle.std.specs.Prelude.{ℕ, zero, suc, ◌+◌, ◌≡◌, Bool, true, false, cond, ◌&&◌, ◌||◌, List, [], ◌∷◌, ◌++◌, map, eqb, leb, ltb, length, get_or, Ok, Err}
 use Rattle.formula.specs.declared.Shape.{Shape}
 use Rattle.formula.specs.declared.Shape.TheVariants.{Identifier, Constant, Pair, Operator, Let, If, For, Iter}
-use Rattle.formula.specs.declared.Verdict.{Verdict}
-use Rattle.formula.specs.declared.Verdict.TheVariants.{Passed, Refused}
+use Rattle.formula.specs.Results.{Verdict}
 use Rattle.formula.specs.Sheet.{row_count, fields_of, field, shape_of, shape_at, named_in}
 use Rattle.formula.specs.Tests.{in_range, all_between, lowest, is-passed, lowest_from, sheet_of, row_tests, formula_tests, verdict_by}
 use Rattle.sheet_tidied.specs.Text.{sheet_text}
@@ -28,8 +27,8 @@ modest_row t r = leb 1 (field t r 0) && leb (field t r 0) 9 && modest (shape_at 
 
 -- "passes tests 1 to 9, kinds lines left aside"
 abbrev pub is_passed : Verdict → Bool
-is_passed Passed = true
-is_passed (Refused r row) = false
+is_passed (Ok _) = true
+is_passed (Err why) = false
 
 unfoldable pub passes_nine : List ℕ → Bool
 unfolding verdict_by row_tests formula_tests sheet_of

@@ -1,10 +1,6 @@
 -- A small sheet is the text of its rows (document 01, "The formula sheet": a field has one text), and each of its rows is one of the list of small rows.
 use Rattle.std.specs.Prelude.{ℕ, zero, suc, ◌+◌, ◌*◌, ◌-◌, ◌≤◌, ◌<◌, ◌≡◌, true, ◌&&◌, List, [], ◌∷◌, ◌++◌, map, ltb, length, get_or, take, drop}
 use borrow.Author.Tests.{eqb-true, leb-true, ltb-true, lt-ltb}
-use Rattle.formula.specs.declared.Check.{Check}
-use Rattle.formula.specs.declared.Check.TheVariants.{Passed as well, Fault}
-use Rattle.formula.specs.declared.Verdict.{Verdict}
-use Rattle.formula.specs.declared.Verdict.TheVariants.{Passed, Refused}
 use Rattle.formula.specs.Sheet.{row_count, lines_in, lines_of, fields_in, fields_of, field, shape_at, named_in}
 use Rattle.formula.specs.SheetLaws.{line_fields}
 use Rattle.formula.specs.Tests.{fields_well, ranges_well, names_well, all_between, lowest, is-passed, sheet_of, row_tests, formula_tests, verdict_by}

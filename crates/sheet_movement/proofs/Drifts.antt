@@ -1,5 +1,5 @@
 -- Laws of specs/Drifts.antt, and what only they need.
-use Rattle.std.specs.Prelude.{ℕ, zero, suc, ◌≤◌, ◌<◌, ◌≡◌, refl, Bool, true, not, ◌||◌, List, [], ◌∷◌, ◌++◌, eqb}
+use Rattle.std.specs.Prelude.{ℕ, zero, suc, ◌≤◌, ◌<◌, ◌≡◌, refl, Bool, true, not, ◌||◌, List, [], ◌∷◌, ◌++◌, eqb, Ok}
 use Rattle.std.proofs.Common.{sym, ap, subst, ◌∙◌, arith}
 use Rattle.std.proofs.Math.Bool.{false}
 use Rattle.std.proofs.lemmas.Bool.{false≢true}
@@ -9,7 +9,6 @@ use Rattle.value.specs.Operators.{pick}
 use Rattle.value.specs.Kinds.{all_of}
 use Rattle.formula.specs.declared.Shape.{Shape}
 use Rattle.formula.specs.declared.Shape.TheVariants.{Identifier, Constant, Pair, Operator, Let, If, For, Iter}
-use Rattle.formula.specs.declared.Check.TheVariants.{Passed}
 use Rattle.formula.specs.Sheet.{shape_at, named_in}
 use Rattle.formula.specs.Tree.{Exp, identifier, constant, pair, operator, let_e, if_e, for_e, exp_node, exp_of, body_of}
 use Rattle.formula.specs.TreeLaws.{AllBetween, Named}
@@ -133,7 +132,7 @@ module _ (t : List ℕ) (n : ℕ) (ok : Named t n) where
   faultless-drifts r l u kinds h = within (suc r) r (omega arith) l u kinds h
 
   -- The formula of a sheet that passes 20.
-  pub sorts-drift : 1 ≤ n → (line : List ℕ) → sorts_kept t n line ≡ Passed → Drifts (exp_of t n)
+  pub sorts-drift : 1 ≤ n → (line : List ℕ) → sorts_kept t n line ≡ Ok tt → Drifts (exp_of t n)
   unfolding sorts_kept kind_check
   sorts-drift l line h =
       faultless-drifts n l (omega arith) (input_kinds (free_e (exp_of t n)) line) (none-lowest _ h)

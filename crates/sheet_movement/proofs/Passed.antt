@@ -1,11 +1,9 @@
 -- What 20 and 21 say of a sheet that passes them, with its kinds line and tolerances. Assumes nothing.
-use Rattle.std.specs.Prelude.{ℕ, ◌*◌, ◌≡◌, refl, true, List, eqb}
+use Rattle.std.specs.Prelude.{ℕ, ◌*◌, ◌≡◌, refl, true, List, eqb, Ok, Err}
 use Rattle.std.proofs.Common.{sym, ◌∙◌, arith}
 use Rattle.std.proofs.Math.ListN.{length}
 use borrow.Author.Tests.{eqb-true}
-use Rattle.formula.specs.declared.Check.TheVariants.{Passed as passes}
-use Rattle.formula.specs.declared.Verdict.{Verdict}
-use Rattle.formula.specs.declared.Verdict.TheVariants.{Passed, Refused}
+use Rattle.formula.specs.Results.{Verdict}
 use Rattle.formula.specs.Sheet.{row_count, fields_of}
 use Rattle.formula.specs.Tree.{formula_of}
 use Rattle.formula.proofs.TreeLaws.{and-true}
@@ -23,23 +21,23 @@ use Rattle.sheet_movement.specs.Drifts.{Drifts}
 use Rattle.sheet_movement.proofs.Drifts.{sorts-drift}
 use Rattle.sheet_movement.proofs.Numbers.{fits-within}
 
-then-passed : (v w : Verdict) → then v w ≡ Passed → (v ≡ Passed) × (w ≡ Passed)
-then-passed Passed w h = (refl, h)
-then-passed (Refused r row) w h = absurd (let z : ◌≡◌ {A = ℕ} 0 1 = cc h in omega arith)
+then-passed : (v w : Verdict) → then v w ≡ Ok tt → (v ≡ Ok tt) × (w ≡ Ok tt)
+then-passed (Ok _) w h = (refl, h)
+then-passed (Err why) w h = absurd (let z : ◌≡◌ {A = ℕ} 0 1 = cc h in omega arith)
 
-module _ (s line tolerances : List ℕ) (h : drift_verdict s line tolerances ≡ Passed) where
-  both-passed : (verdict_of s line ≡ Passed) × (verdict_by (drift_tests line tolerances) (sheet_of s) ≡ Passed)
+module _ (s line tolerances : List ℕ) (h : drift_verdict s line tolerances ≡ Ok tt) where
+  both-passed : (verdict_of s line ≡ Ok tt) × (verdict_by (drift_tests line tolerances) (sheet_of s) ≡ Ok tt)
   unfolding drift_verdict verdict_of
   both-passed = then-passed _ _ (sym (then-behind (sheet_of s) (tests line) (drift_tests line tolerances)) ∙ h)
 
   -- 1 to 10, 17 and 18
-  pub drift-reads : verdict_of s line ≡ Passed
+  pub drift-reads : verdict_of s line ≡ Ok tt
   drift-reads = both-passed.0
 
   pub drift-admissible : Admissible s
   drift-admissible = passed-admissible s line drift-reads
 
-  sorts-and-fits : (sorts_kept (fields_of s) (row_count s) line ≡ passes) × (movements_fit (fields_of s) (row_count s) tolerances ≡ true)
+  sorts-and-fits : (sorts_kept (fields_of s) (row_count s) line ≡ Ok tt) × (movements_fit (fields_of s) (row_count s) tolerances ≡ true)
   unfolding drift_tests sheet_of
   sorts-and-fits =
       let e = (all_pass (sheet_of s) (drift_tests line tolerances)).0 both-passed.1 in

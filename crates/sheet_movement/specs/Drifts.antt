@@ -7,7 +7,6 @@ use Rattle.value.specs.Operators.{pick}
 use Rattle.value.specs.Kinds.{all_of}
 use Rattle.formula.specs.declared.Shape.{Shape}
 use Rattle.formula.specs.declared.Shape.TheVariants.{Identifier, Constant, Pair, Operator, Let, If, For, Iter}
-use Rattle.formula.specs.declared.Check.TheVariants.{Passed}
 use Rattle.formula.specs.Sheet.{shape_at, named_in}
 use Rattle.formula.specs.Tree.{Exp, identifier, constant, pair, operator, let_e, if_e, for_e, exp_node, exp_of, body_of}
 use Rattle.formula.specs.TreeLaws.{AllBetween, Named}

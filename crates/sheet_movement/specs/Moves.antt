@@ -5,7 +5,7 @@ use Rattle.std.specs.Prelude.{ℕ, zero, suc, ◌+◌, ◌-◌, ◌*◌, ◌/◌
 use Rattle.value.specs.Operators.{pick}
 use Rattle.names.specs.Names.{Names, range, below, size_from}
 use Rattle.formula.specs.declared.Refusal.TheVariants.{Sort, Movement}
-use Rattle.formula.specs.declared.Verdict.{Verdict}
+use Rattle.formula.specs.Results.{Verdict}
 use Rattle.formula.specs.Tree.{Exp, identifier, constant, pair, operator, let_e, if_e, for_e, exp_of, formula_of}
 use Rattle.formula.specs.Free.{free_e, inputs_of}
 use Rattle.formula.specs.Tests.{Sheet, Test, test, tests, whole, sheet_of, verdict_by}

@@ -5,7 +5,7 @@ use Rattle.std.specs.Prelude.{ℕ, Bool, true, false, not, ◌&&◌, ◌||◌, L
 use Rattle.value.specs.declared.ValueKind.TheVariants.{Whole as whole-kind}
 use Rattle.value.specs.Operators.{pick}
 use Rattle.value.specs.Kinds.{all_of}
-use Rattle.formula.specs.declared.Check.{Check}
+use Rattle.formula.specs.Results.{Check}
 use Rattle.formula.specs.Tree.{Exp, identifier, constant, pair, operator, let_e, if_e, for_e, Body, ret, iter, let_b, if_b, exp_of}
 use Rattle.formula.specs.Free.{free_e}
 use Rattle.formula.specs.Places.{expression, body}

@@ -8,7 +8,7 @@ use native.Mathlib.Omega.{arith}
 use native.Mathlib.Numerals.{add-one}
 use lib.ListN.{length, take}
 use lib.Seq.{sets, length-sets, length-take-le}
-use Rattle.formula.specs.declared.Check.TheVariants.{Passed}
+use Rattle.std.specs.Prelude.{Ok}
 use Rattle.formula.specs.Tests.{lowest, ranges_well, names_well}
 use Rattle.formula.proofs.TestLaws.{each-passed}
 use Rattle.sheet_tidied.specs.Text.{sheet_text}
@@ -70,18 +70,18 @@ module _ (t w m : List ℕ) (n r : ℕ) (a : 1 ≤ r) (b : r ≤ n) (few : n ≤
       ∙ ap (λ (j : ℕ). first_small (behind_row (rows_to (r - 1) t) (field_row t r) j)) k
 
 -- Rows of the list by tests 6 to 9, where each names rows before it.
-small-passes : (rs : Rows) (n : ℕ) → length rs ≡ n → RowsListed n rs → 1 ≤ n → n ≤ 5 → (u : List ℕ) → flatten rs ≡ u → lowest n (names_well u) ≡ Passed
+small-passes : (rs : Rows) (n : ℕ) → length rs ≡ n → RowsListed n rs → 1 ≤ n → n ≤ 5 → (u : List ℕ) → flatten rs ≡ u → lowest n (names_well u) ≡ Ok tt
     → is_small (sheet_text rs) ≡ formula_passes u n
 unfolding formula_passes
 small-passes rs n e l a b u f h =
     small-by-tests rs (rw e l) (rw e a) (rw e b) ∙ rw (e, f, h) refl
 
 module _ (u w m : List ℕ) (n : ℕ) (f : Front u w m n) where
-  pub front-ranged : lowest n (ranges_well u) ≡ Passed
+  pub front-ranged : lowest n (ranges_well u) ≡ Ok tt
   unfolding ranges_well
   front-ranged = each-passed n (ranges_well u) (λ r a b. content-range (field_row u r) (f.content r a b))
 
-  pub front-names : lowest n (names_well u) ≡ Passed
+  pub front-names : lowest n (names_well u) ≡ Ok tt
   front-names = each-passed n (names_well u) (λ r a b. (stands-says u r (f.stand r a b)).names)
 
 found_as : (b : Bool) (rs : Rows) → found b rs ≡ cond b (some rs) none

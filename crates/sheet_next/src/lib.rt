@@ -12,7 +12,7 @@ ghost use Rattle.sheet_stands.specs.Fronts.{rows_to};
 ghost use Rattle.sheet_next.specs.Next.{handed, answers, next_into};
 
 use crate::search::behind;
-use formula::{Refusal, refusal_number};
+use formula::Refusal;
 use sheet_fields::layout::ROW_BYTES;
 use sheet_stands::contents::row_at;
 use sheet_stands::tests::{SMALL_BYTES, SMALL_FIELDS, listed};
@@ -31,7 +31,7 @@ fn refused(r: Refusal) -> NextAnswer
     ensures { result ≡ answers (number_of r) 0 0 }
 {
     NextAnswer {
-        refusal: refusal_number(r),
+        refusal: u32::from(r),
         row: 0,
         rows: 0,
     }
@@ -42,10 +42,8 @@ fn write_rows(fields: &[u32], n: usize, out: &mut [u8])
     requires { (5 * n ≤ length fields.now) × (31 * n ≤ length out.old) }
     ensures { out.new ≡ sets out.old 0 (sheet_text (rows_to n fields.now)) }
 {
-    let mut i = 0;
-    while i < n {
+    for i in 0..n {
         put_row(out, ROW_BYTES * i, row_at(fields, i + 1));
-        i += 1;
     }
 }
 

@@ -27,13 +27,11 @@ fn first_from(
         × Agree (r - 1) t.new t.old
         × Front t.new widths.new masks.new (r - 1) }
 {
-    let mut k = start;
-    while k < CONTENTS {
+    for k in start..CONTENTS {
         put_content(t, r, k);
         if completes(t, widths, masks, n, r) {
             return true;
         }
-        k += 1;
     }
     false
 }
@@ -61,9 +59,8 @@ fn fill(t: &[u32], n: usize, widths: &mut [u8], masks: &mut [u64])
     requires { Given t.now n × (length widths.old ≡ 5) × (length masks.old ≡ 5) }
     ensures { Front t.now widths.new masks.new n }
 {
-    let mut r = 0;
-    while r < n {
-        r += 1;
+    for i in 0..n {
+        let r = i + 1;
         let end = FIELDS * r;
         stands(&t[..end], r, widths, masks);
     }
@@ -77,13 +74,11 @@ fn as_long(t: &mut [u32], n: usize) -> bool
     let mut widths = [0; SMALL_ROWS];
     let mut masks = [0; SMALL_ROWS];
     fill(t, n, &mut widths, &mut masks);
-    let mut r = n;
-    while 0 < r {
+    for r in (1..=n).rev() {
         let start = number_of(t, r) + 1;
         if first_from(t, &mut widths, &mut masks, n, r, start) {
             return true;
         }
-        r -= 1;
     }
     false
 }
@@ -95,9 +90,8 @@ fn longer(t: &mut [u32], n: usize) -> usize
 {
     let mut widths = [0; SMALL_ROWS];
     let mut masks = [0; SMALL_ROWS];
-    let mut m = n;
-    while m < SMALL_ROWS {
-        m += 1;
+    for i in n..SMALL_ROWS {
+        let m = i + 1;
         if first_from(t, &mut widths, &mut masks, m, 1, 0) {
             return m;
         }

@@ -8,7 +8,8 @@ use lib.Seq.{get_or-take}
 use Rattle.names.specs.Names.{mask}
 use Rattle.formula.specs.declared.Refusal.{Refusal}
 use Rattle.formula.specs.declared.Figures.{Figures}
-use Rattle.formula.specs.declared.Reading.TheVariants.{Accepted, Rejected}
+use Rattle.formula.specs.Results.{refused}
+use Rattle.std.specs.Prelude.{Ok}
 use Rattle.formula.specs.Sheet.{row_count, fields_of}
 use Rattle.formula.specs.Tree.{exp_of, formula_of}
 use Rattle.formula.specs.Widths.{width}
@@ -42,10 +43,10 @@ module _ (s : List ℕ) (x : Tables) (ok : Accepts s x) where
   figures-are f a b c d =
       same-figures f (figures_of s) (a ∙ ok.rows) (b ∙ ok.tables.operators) (c ∙ inputs_in_lem (exp_of (fields_of s) (row_count s)) _ mask_is) (d ∙ results-are)
 
-pub answer-modest : (s line : List ℕ) (f : Figures) → reading_of s line ≡ Accepted f → Modest f
+pub answer-modest : (s line : List ℕ) (f : Figures) → reading_of s line ≡ Ok f → Modest f
 answer-modest s line f h =
     let ok = passed-admissible s line (accepted-passed s line f h) in
     subst (λ (g : Figures). Modest g) (sym (accepted-figures s line f h)) (modest s (some-rows s ok.laid) ok)
 
-pub answer-low : (s line : List ℕ) (r : Refusal) (row : ℕ) → reading_of s line ≡ Rejected r row → row ≤ 200
+pub answer-low : (s line : List ℕ) (r : Refusal) (row : ℕ) → reading_of s line ≡ refused r row → row ≤ 200
 answer-low s line r row h = low-row s line r row (rejected-refused s line r row h)

@@ -8,12 +8,12 @@ use lib.Dec.{leb, eqb}
 use lib.ListN.{length, get_or, take}
 use lib.Seq.{paste, take-paste, take_all}
 use borrow.Author.Tests.{leb-true, eqb-true, eqb-false, not-true}
-use Rattle.formula.specs.declared.Check.{Check}
-use Rattle.formula.specs.declared.Check.TheVariants.{Passed, Fault}
+use Rattle.formula.specs.Results.{Check, Verdict, refused}
+use Rattle.std.specs.Prelude.{Result, Ok, Err, Option, Some, None}
+use Rattle.std.specs.Option.{ok_or}
+use Rattle.formula.specs.declared.Refused.{Refused}
 use Rattle.formula.specs.declared.Refusal.{Refusal}
 use Rattle.formula.specs.declared.Refusal.TheVariants.{Layout, Rows, Malformed, Range, Naming, Named, StrayIter, Width, Unused, KindsLine, KindsBroken, Operators}
-use Rattle.formula.specs.declared.Verdict.{Verdict}
-use Rattle.formula.specs.declared.Verdict.TheVariants.{Passed as passed, Refused}
 use Rattle.formula.specs.Sheet.{row_count, lines_of, fields_of}
 use Rattle.formula.proofs.SheetLaws.{fields-length}
 use Rattle.formula.specs.Tree.{exp_of}
@@ -32,8 +32,6 @@ use Rattle.sheet_fields.specs.Decoding.{seen}
 use Rattle.names.specs.Names.{mask}
 use Rattle.sheet_tables.specs.Nodes.{node_at, returned_in, free_in, Holds}
 use Rattle.sheet_tables.specs.Ready.{Ready}
-use Rattle.sheet_count.specs.declared.count.Total.{Total}
-use Rattle.sheet_count.specs.declared.count.Total.TheVariants.{Within, Over}
 use Rattle.sheet_count.specs.Counts.{total_of}
 use Rattle.meaning.specs.Rows.{ExpRow, width_in}
 use Rattle.meaning.proofs.Accepted.{accepted-rows, last_row}
@@ -50,11 +48,11 @@ module _ (s : List ℕ) where
   abbrev fifth : Check
   fifth = lowest (row_count s) (names_well (fields_of s))
 
-  pub fault-first : laid_out s (lines_of s) ≡ false → Refused Layout 0 ≡ row_verdict s
+  pub fault-first : laid_out s (lines_of s) ≡ false → refused Layout 0 ≡ row_verdict s
   unfolding row_verdict verdict_by after_check row_tests sheet_of
   fault-first p = rw p refl
 
-  pub fault-second : laid_out s (lines_of s) ≡ true → few_rows s ≡ false → Refused Rows 0 ≡ row_verdict s
+  pub fault-second : laid_out s (lines_of s) ≡ true → few_rows s ≡ false → refused Rows 0 ≡ row_verdict s
   unfolding row_verdict verdict_by after_check row_tests sheet_of
   fault-second p q = rw (p, q) refl
 
@@ -62,34 +60,30 @@ module _ (s : List ℕ) where
     pub rows_few : row_count s ≤ 200
     rows_few = leb-true (row_count s) 200 q
 
-    pub fault-third : (r : ℕ) → third ≡ Fault r → Refused Malformed r ≡ row_verdict s
+    pub fault-third : (r : ℕ) → third ≡ Err r → refused Malformed r ≡ row_verdict s
     unfolding row_verdict verdict_by after_check row_tests sheet_of
     fault-third r u = rw (p, q, u) refl
 
-    pub fault-fourth : third ≡ Passed → (r : ℕ) → fourth ≡ Fault r → Refused Range r ≡ row_verdict s
+    pub fault-fourth : third ≡ Ok tt → (r : ℕ) → fourth ≡ Err r → refused Range r ≡ row_verdict s
     unfolding row_verdict verdict_by after_check row_tests sheet_of
     fault-fourth u r v = rw (p, q, u, v) refl
 
-    pub fault-fifth : third ≡ Passed → fourth ≡ Passed → (r : ℕ) → fifth ≡ Fault r → Refused Naming r ≡ row_verdict s
+    pub rows-end : third ≡ Ok tt → fourth ≡ Ok tt → after_check Naming fifth (Ok tt) ≡ row_verdict s
     unfolding row_verdict verdict_by after_check row_tests sheet_of
-    fault-fifth u v r w = rw (p, q, u, v, w) refl
-
-    pub rows_pass : third ≡ Passed → fourth ≡ Passed → fifth ≡ Passed → passed ≡ row_verdict s
-    unfolding row_verdict verdict_by after_check row_tests sheet_of
-    rows_pass u v w = rw (p, q, u, v, w) refl
+    rows-end u v = rw (p, q, u, v) refl
 
   -- What an accepted layout and the tests of rows say.
   pub record Rowwise : Type 0 where
     pub laid : laid_out s (lines_of s) ≡ true
     pub few : few_rows s ≡ true
-    pub ranged : fourth ≡ Passed
-    pub named : fifth ≡ Passed
+    pub ranged : fourth ≡ Ok tt
+    pub named : fifth ≡ Ok tt
 
   each_row : Each (Passes (sheet_of s)) row_tests → Rowwise
   unfolding row_tests sheet_of
   each_row (a, (b, (c, (d, (e, end))))) = record { laid = whole-true (laid_out s (lines_of s)) a; few = whole-true (few_rows s) b; ranged = d; named = e }
 
-  pub rowwise : row_verdict s ≡ passed → Rowwise
+  pub rowwise : row_verdict s ≡ Ok tt → Rowwise
   unfolding row_verdict
   rowwise h = each_row ((all_pass (sheet_of s) row_tests).0 h)
 
@@ -103,7 +97,7 @@ module _ (s : List ℕ) where
       omega arith
 
   -- The table that a passed test 3 leaves.
-  pub decoded : (n : ℕ) → n ≡ row_count s → (t l : List ℕ) (c : Check) → l ≡ paste t 0 (fields_of s) (5 * seen n c) → c ≡ Passed → 5 * n ≤ length t
+  pub decoded : (n : ℕ) → n ≡ row_count s → (t l : List ℕ) (c : Check) → l ≡ paste t 0 (fields_of s) (5 * seen n c) → c ≡ Ok tt → 5 * n ≤ length t
       → take (5 * n) l ≡ fields_of s
   decoded n e t l c h p k =
       let z : 0 + 5 * n ≡ 5 * n = omega arith in
@@ -122,20 +116,20 @@ module _ (t : List ℕ) (n : ℕ) where
   seventh = lowest n (placed_well t (places_of t n))
 
   module _ (line : List ℕ) where
-    pub fault-sixth : (r : ℕ) → sixth ≡ Fault r → Refused Named r ≡ formula_verdict t n line
+    pub fault-sixth : (r : ℕ) → sixth ≡ Err r → refused Named r ≡ formula_verdict t n line
     unfolding formula_verdict verdict_by after_check formula_tests
     fault-sixth r u = rw u refl
 
-    pub fault-seventh : sixth ≡ Passed → (r : ℕ) → seventh ≡ Fault r → Refused StrayIter r ≡ formula_verdict t n line
+    pub fault-seventh : sixth ≡ Ok tt → (r : ℕ) → seventh ≡ Err r → refused StrayIter r ≡ formula_verdict t n line
     unfolding formula_verdict verdict_by after_check formula_tests
     fault-seventh u r v = rw (u, v) refl
 
-    pub places-pass : sixth ≡ Passed → seventh ≡ Passed → table_verdict t (places_of t n) n line ≡ formula_verdict t n line
+    pub places-pass : sixth ≡ Ok tt → seventh ≡ Ok tt → table_verdict t (places_of t n) n line ≡ formula_verdict t n line
     unfolding formula_verdict table_verdict verdict_by after_check formula_tests
     places-pass u v = rw (u, v) refl
 
   -- What tests 4 to 7 say together.
-  pub ready : length t ≡ 5 * n → lowest n (ranges_well t) ≡ Passed → lowest n (names_well t) ≡ Passed → sixth ≡ Passed → seventh ≡ Passed → Ready t n (places_of t n)
+  pub ready : length t ≡ 5 * n → lowest n (ranges_well t) ≡ Ok tt → lowest n (names_well t) ≡ Ok tt → sixth ≡ Ok tt → seventh ≡ Ok tt → Ready t n (places_of t n)
   ready l a b c d =
       record {
         size = l;
@@ -165,7 +159,7 @@ module _ (t : List ℕ) (n : ℕ) (p : List Bool) (ok : Ready t n p) (some : 1 �
   last-mask m h = h.entry n some (omega arith) ∙ ap (λ (z : Node). mask (free_in z)) last-node
 
   -- What tests 4 to 8 say of it.
-  pub last-is : (ret : List ℕ) → length ret ≡ n → lowest n (widths_well t p) ≡ Passed → Holds 0 ret n (λ r. returned_in (node_at t p r)) → ExpRow t ret n
+  pub last-is : (ret : List ℕ) → length ret ≡ n → lowest n (widths_well t p) ≡ Ok tt → Holds 0 ret n (λ r. returned_in (node_at t p r)) → ExpRow t ret n
   last-is ret size wide h =
       last_row t n ok.sound ret some
       (accepted-rows t n ok.sound ret ok.size (omega arith) ok.ranges
@@ -184,42 +178,43 @@ module _ (t : List ℕ) (n : ℕ) (line : List ℕ) where
     unfolding line_fits
     fits-as b h = ap (λ (i : ℕ). line_well i line) (sym e) ∙ h
 
-    pub fault-line : line_well k line ≡ false → Refused KindsLine 0 ≡ kind_verdict t n line
+    pub fault-line : line_well k line ≡ false → refused KindsLine 0 ≡ kind_verdict t n line
     unfolding kind_verdict verdict_by after_check kind_tests
     fault-line h = rw (fits-as false h) refl
 
-    module _ (h : line_well k line ≡ true) where
-      pub fault-kinds : (r : ℕ) → inputKindsOf ≡ Fault r → Refused KindsBroken r ≡ kind_verdict t n line
-      unfolding kind_verdict verdict_by after_check kind_tests kinds_kept
-      fault-kinds r u = rw (fits-as true h, u) refl
-
-      pub kinds-pass : inputKindsOf ≡ Passed → passed ≡ kind_verdict t n line
-      unfolding kind_verdict verdict_by after_check kind_tests kinds_kept
-      kinds-pass u = rw (fits-as true h, u) refl
+    pub kinds-end : line_well k line ≡ true → after_check KindsBroken inputKindsOf (Ok tt) ≡ kind_verdict t n line
+    unfolding kind_verdict verdict_by after_check kind_tests kinds_kept
+    kinds-end h = rw (fits-as true h) refl
 
 -- ---- the tests from 8 on
 
-is-over : Total → Bool
-is-over Over = true
-is-over (Within k) = false
+is-over : Option ℕ → Bool
+is-over None = true
+is-over (Some k) = false
 
-amount : Total → ℕ
-amount Over = 0
-amount (Within k) = k
+amount : Option ℕ → ℕ
+amount None = 0
+amount (Some k) = k
 
-pub tenth-over : (k : ℕ) → total_of k ≡ Over → whole (leb k 1024) ≡ Fault 0
+-- What holds of the operators where there are some, and of a refusal where not.
+pub by_total : (P : Result ℕ Refused → Type 0) (why : Refused) (y : Option ℕ) (r : Result ℕ Refused) → r ≡ ok_or y why
+    → (y ≡ None → P (Err why)) → ((k : ℕ) → y ≡ Some k → P (Ok k)) → P r
+by_total P why None r e f g = subst P (sym e) (f refl)
+by_total P why (Some k) r e f g = subst P (sym e) (g k refl)
+
+pub tenth-over : (k : ℕ) → total_of k ≡ None → whole (leb k 1024) ≡ Err 0
 unfolding is-over
 tenth-over k h = go (leb k 1024) h
   where
-    go : (b : Bool) → cond b (Within k) Over ≡ Over → whole b ≡ Fault 0
+    go : (b : Bool) → cond b (Some k) None ≡ None → whole b ≡ Err 0
     go true e = absurd (false≢true (ap is-over e))
     go false e = refl
 
-pub tenth-within : (k j : ℕ) → total_of k ≡ Within j → (whole (leb k 1024) ≡ Passed) × (j ≡ k)
+pub tenth-within : (k j : ℕ) → total_of k ≡ Some j → (whole (leb k 1024) ≡ Ok tt) × (j ≡ k)
 unfolding is-over amount
 tenth-within k j h = go (leb k 1024) h
   where
-    go : (b : Bool) → cond b (Within k) Over ≡ Within j → (whole b ≡ Passed) × (j ≡ k)
+    go : (b : Bool) → cond b (Some k) None ≡ Some j → (whole b ≡ Ok tt) × (j ≡ k)
     go true e = (refl, sym (ap amount e))
     go false e = absurd (false≢true (sym (ap is-over e)))
 
@@ -230,32 +225,32 @@ module _ (t : List ℕ) (n : ℕ) (p : List Bool) (line : List ℕ) where
   abbrev ninth : Check
   ninth = lowest n (bound_well t p)
 
-  pub fault-eighth : (r : ℕ) → eighth ≡ Fault r → Refused Width r ≡ table_verdict t p n line
+  pub fault-eighth : (r : ℕ) → eighth ≡ Err r → refused Width r ≡ table_verdict t p n line
   unfolding table_verdict verdict_by after_check formula_tests
   fault-eighth r u = rw u refl
 
-  module _ (u : eighth ≡ Passed) where
-    pub fault-ninth : (r : ℕ) → ninth ≡ Fault r → Refused Unused r ≡ table_verdict t p n line
+  module _ (u : eighth ≡ Ok tt) where
+    pub fault-ninth : (r : ℕ) → ninth ≡ Err r → refused Unused r ≡ table_verdict t p n line
     unfolding table_verdict verdict_by after_check formula_tests
     fault-ninth r v = rw (u, v) refl
 
-    module _ (v : ninth ≡ Passed) (x : Verdict) (e : x ≡ kind_verdict t n line) where
+    module _ (v : ninth ≡ Ok tt) (x : Verdict) (e : x ≡ kind_verdict t n line) where
       kinds-then : table_verdict t p n line ≡ then x (verdict_by graph_tests (rows_in t p n))
       unfolding table_verdict verdict_by after_check formula_tests kind_tests kind_verdict
       kinds-then = rw (u, v, e) (then-behind (rows_in t p n) (kind_tests line) graph_tests)
 
-      pub kinds-refuse : (r : Refusal) (row : ℕ) → x ≡ Refused r row → Refused r row ≡ table_verdict t p n line
+      pub kinds-refuse : (r : Refusal) (row : ℕ) → x ≡ refused r row → refused r row ≡ table_verdict t p n line
       kinds-refuse r row f = sym (kinds-then ∙ ap (λ (z : Verdict). then z (verdict_by graph_tests (rows_in t p n))) f)
 
-      module _ (f : x ≡ passed) (y : Total) (g : y ≡ total_of (operators_of t n)) where
+      module _ (f : x ≡ Ok tt) (y : Option ℕ) (g : y ≡ total_of (operators_of t n)) where
         graph-decides : verdict_by graph_tests (rows_in t p n) ≡ table_verdict t p n line
         graph-decides = sym (kinds-then ∙ ap (λ (z : Verdict). then z (verdict_by graph_tests (rows_in t p n))) f)
 
-        pub fault-tenth : y ≡ Over → Refused Operators 0 ≡ table_verdict t p n line
+        pub fault-tenth : y ≡ None → refused Operators 0 ≡ table_verdict t p n line
         unfolding verdict_by after_check graph_tests
         fault-tenth h = rw (tenth-over (operators_of t n) (sym g ∙ h)) at graph-decides
 
-        pub tables-pass : (k : ℕ) → y ≡ Within k → passed ≡ table_verdict t p n line
+        pub tables-pass : (k : ℕ) → y ≡ Some k → Ok tt ≡ table_verdict t p n line
         unfolding verdict_by after_check graph_tests
         tables-pass k h = rw (tenth-within (operators_of t n) k (sym g ∙ h)).0 at graph-decides
 
@@ -266,10 +261,10 @@ module _ (s line : List ℕ) where
   unfolding verdict_of tests formula_tests kind_tests graph_tests verdict_by sheet_of row_verdict formula_verdict
   all_then = then-behind (sheet_of s) row_tests (formula_tests ++ (kind_tests line ++ graph_tests))
 
-  pub rows-refuse : (v : Verdict) (r : Refusal) (row : ℕ) → v ≡ row_verdict s → v ≡ Refused r row → Refused r row ≡ verdict_of s line
+  pub rows-refuse : (v : Verdict) (r : Refusal) (row : ℕ) → v ≡ row_verdict s → v ≡ refused r row → refused r row ≡ verdict_of s line
   rows-refuse v r row e f = sym (all_then ∙ ap (λ (x : Verdict). then x (formula_verdict (fields_of s) (row_count s) line)) (sym e ∙ f))
 
-  pub formula-decides : (v : Verdict) → v ≡ row_verdict s → v ≡ passed → formula_verdict (fields_of s) (row_count s) line ≡ verdict_of s line
+  pub formula-decides : (v : Verdict) → v ≡ row_verdict s → v ≡ Ok tt → formula_verdict (fields_of s) (row_count s) line ≡ verdict_of s line
   formula-decides v e f = sym (all_then ∙ ap (λ (x : Verdict). then x (formula_verdict (fields_of s) (row_count s) line)) (sym e ∙ f))
 
 -- ---- tables

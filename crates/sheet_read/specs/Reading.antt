@@ -1,11 +1,9 @@
 -- What reading gives: the tests in their order as the passes make them, the tables of an accepted sheet, and the answer for
 -- the firmware (document 01, "Said by what was handed in", 1 to 10, and document 02, Job 6, 17 and 18).
-use Rattle.std.specs.Prelude.{ℕ, ◌*◌, ◌≤◌, ◌≡◌, Bool, List, [], ◌++◌, take, drop, length}
+use Rattle.std.specs.Prelude.{ℕ, ◌*◌, ◌≤◌, ◌≡◌, Bool, List, [], ◌++◌, take, drop, length, Result, Ok, Err}
 use Rattle.std.proofs.Common.{sym, ◌∙◌}
-use Rattle.formula.specs.declared.Verdict.{Verdict}
-use Rattle.formula.specs.declared.Verdict.TheVariants.{Passed as passed, Refused as refused}
-use Rattle.formula.specs.declared.Reading.{Reading}
-use Rattle.formula.specs.declared.Reading.TheVariants.{Accepted, Rejected}
+use Rattle.formula.specs.declared.Refused.{Refused}
+use Rattle.formula.specs.Results.{Reading, Verdict}
 use Rattle.formula.specs.Refusals.{number_of}
 use Rattle.formula.specs.Sheet.{row_count, fields_of}
 use Rattle.formula.specs.Places.{places_of}
@@ -14,8 +12,6 @@ use Rattle.formula.specs.Acceptance.{Admissible, Kinded}
 use Rattle.formula.proofs.Acceptance.{passed-admissible, passed-kinded}
 use Rattle.meaning.specs.Rows.{ExpRow}
 use Rattle.sheet_read.specs.declared.read.ReadAnswer.{ReadAnswer}
-use Rattle.sheet_read.specs.declared.read.Tested.{Tested}
-use Rattle.sheet_read.specs.declared.read.Tested.TheVariants.{Refused, Passed}
 use Rattle.names.specs.Names.{mask}
 use Rattle.sheet_tables.specs.Nodes.{node_at, returned_in, free_in, Holds}
 use Rattle.sheet_tables.specs.Ready.{Ready}
@@ -45,13 +41,13 @@ unfolding verdict_by formula_tests kind_tests graph_tests
 table_verdict t p n line = verdict_by (drop 2 (formula_tests ++ (kind_tests line ++ graph_tests))) (rows_in t p n)
 
 -- What the tests say, and the operators of an accepted sheet's formula.
-abbrev pub verdict_in : Tested → Verdict
-verdict_in (Refused r row) = refused r row
-verdict_in (Passed k) = passed
+abbrev pub verdict_in : Result ℕ Refused → Verdict
+verdict_in (Err why) = Err why
+verdict_in (Ok k) = Ok tt
 
-abbrev pub operators_in : Tested → ℕ
-operators_in (Refused r row) = 0
-operators_in (Passed k) = k
+abbrev pub operators_in : Result ℕ Refused → ℕ
+operators_in (Err why) = 0
+operators_in (Ok k) = k
 
 -- What is known of n rows with the fields t once all tests have passed: k operators, returned widths ret, masks m; and that the
 -- last row is the formula's.
@@ -73,7 +69,7 @@ pub record Tables : Type 0 where
   pub returned : List ℕ
   pub masks : List ℕ
 
-abbrev pub tables_of : Tested → ℕ → List ℕ → List ℕ → List ℕ → Tables
+abbrev pub tables_of : Result ℕ Refused → ℕ → List ℕ → List ℕ → List ℕ → Tables
 tables_of v n t ret m = record { verdict = verdict_in v; operators = operators_in v; rows = n; fields = t; returned = ret; masks = m }
 
 -- The tables of an accepted sheet.
@@ -86,10 +82,10 @@ pub record Accepts (s : List ℕ) (x : Tables) : Type 0 where
 
 pub record Told (s line : List ℕ) (x : Tables) : Type 0 where
   pub verdict : x.verdict ≡ verdict_of s line
-  pub accepts : x.verdict ≡ passed → Accepts s x
+  pub accepts : x.verdict ≡ Ok tt → Accepts s x
 
 -- Where the tests told that they passed, the sheet is admissible and its kinds line is told and kept.
-module _ (s line : List ℕ) (x : Tables) (told : Told s line x) (well : x.verdict ≡ passed) where
+module _ (s line : List ℕ) (x : Tables) (told : Told s line x) (well : x.verdict ≡ Ok tt) where
   pub told-admissible : Admissible s
   told-admissible = passed-admissible s line (sym told.verdict ∙ well)
 
@@ -98,5 +94,5 @@ module _ (s line : List ℕ) (x : Tables) (told : Told s line x) (well : x.verdi
 
 -- The answer for the firmware: refusal 0 for an accepted sheet, else document 01's number; figures 0 on refusal.
 abbrev pub answer_of : Reading → ReadAnswer
-answer_of (Accepted f) = record { refusal = 0; row = 0; rows = f.rows; operators = f.operators; inputs = f.inputs; results = f.results }
-answer_of (Rejected r row) = record { refusal = number_of r; row = row; rows = 0; operators = 0; inputs = 0; results = 0 }
+answer_of (Ok f) = record { refusal = 0; row = 0; rows = f.rows; operators = f.operators; inputs = f.inputs; results = f.results }
+answer_of (Err why) = record { refusal = number_of why.refusal; row = why.row; rows = 0; operators = 0; inputs = 0; results = 0 }

@@ -2,15 +2,14 @@
 use Prim.Native.Nat.{ℕ, zero, suc, ◌+◌, ◌-◌, ◌≤◌, ◌<◌, min}
 use mathlib.Core.Path.{◌≡◌, refl, sym, ap, ◌∙◌}
 use mathlib.Core.Bool.{Bool, true, false, not, cond, ◌||◌, ◌&&◌}
-use mathlib.Core.List.{List, [], ◌∷◌, ◌++◌}
+use mathlib.Core.List.{List, [], ◌∷◌}
 use native.Mathlib.Omega.{arith}
-use native.Mathlib.Numerals.{add-one}
 use native.Mathlib.Decide.{ℕ_discrete}
 use lib.Dec.{eqb}
-use lib.ListN.{length, get_or, set, take, length-set, replicate, get_or-replicate, length-replicate}
+use lib.ListN.{length, get_or, set, length-set, replicate, get_or-replicate, length-replicate}
 use lib.Seq.{get_or-set_same, get_or-set_other}
 use borrow.Author.Tests.{eq-eqb, ne_eqb}
-use Rattle.formula.specs.declared.Check.TheVariants.{Passed}
+use Rattle.std.specs.Prelude.{Ok}
 use Rattle.formula.specs.Sheet.{shape_at, named_in}
 use Rattle.formula.specs.Tests.{placed_well, is_iter, occurrences, all_named, named_once, names_well, lowest}
 use Rattle.formula.proofs.TestLaws.{passed-each, same-lowest}
@@ -27,12 +26,12 @@ pub placed_at : (t : List ℕ) (p : List Bool) (i : ℕ) → placed_well t p (i 
 unfolding placed_well
 placed_at t p i = let e : i + 1 - 1 ≡ i = omega arith in ap (λ (k : ℕ). not (is_iter (shape_at t (i + 1))) || get_or p k false) e
 
-pub tallied-more : (t l₀ l : List ℕ) (i : ℕ) → l ≡ tallied t i l₀ → tally (named_in (shape_at t (i + 1))) l ≡ tallied t (i + 1) l₀
+-- What the rows up to r name, from what those before it name.
+pub tallied_more : (t l₀ l : List ℕ) (r : ℕ) → 1 ≤ r → l ≡ tallied t (r - 1) l₀ → tally (named_in (shape_at t r)) l ≡ tallied t r l₀
 unfolding tallied
-tallied-more t l₀ l i e =
-    ap (λ (k : ℕ). tally (named_in (shape_at t k)) l) (add-one i)
-    ∙ ap (tally (named_in (shape_at t (suc i)))) e
-    ∙ ap (λ (k : ℕ). tallied t k l₀) (sym (add-one i))
+tallied_more t l₀ l r h e =
+    let f : r ≡ suc (r - 1) = omega arith in
+    ap (tally (named_in (shape_at t r))) e ∙ ap (λ (k : ℕ). tally (named_in (shape_at t k)) (tallied t (r - 1) l₀)) f ∙ ap (λ (k : ℕ). tallied t k l₀) (sym f)
 
 -- A count that stops at 2.
 cap : ℕ → ℕ
@@ -93,12 +92,12 @@ tallied-at t l m (suc n) k ok b h e =
     (rw (tallied-length t l n) h) (tallied-at t l m n k ok (omega arith) h e)
     ∙ ap cap (sym (occurs-append (suc k) (all_named t n) (named_in (shape_at t (suc n)))))
 
-pub named_by : (t : List ℕ) (n : ℕ) → lowest n (names_well t) ≡ Passed → Named t n
+pub named_by : (t : List ℕ) (n : ℕ) → lowest n (names_well t) ≡ Ok tt → Named t n
 unfolding names_well
 named_by t n h = record { names = λ r a b. all-between r (named_in (shape_at t r)) (passed-each n (names_well t) h r a b) }
 
 -- By a tally of n rows: whether a row is named once, and test 6.
-module _ (t l : List ℕ) (n : ℕ) (h : lowest n (names_well t) ≡ Passed) (z : l ≡ replicate n 0) where
+module _ (t l : List ℕ) (n : ℕ) (h : lowest n (names_well t) ≡ Ok tt) (z : l ≡ replicate n 0) where
   pub tallied-row : (r : ℕ) → 1 ≤ r → r ≤ n → eqb (get_or (tallied t n l) (r - 1) 0) 1 ≡ named_once (all_named t n) r
   tallied-row r a b =
       let e : suc (r - 1) ≡ r = omega arith in

@@ -1,5 +1,5 @@
 -- How often rows are named, as test 6 of document 01 keeps it in a table.
-use Rattle.std.specs.Prelude.{ℕ, zero, suc, ◌+◌, ◌-◌, Bool, true, false, cond, List, [], ◌∷◌, get_or, set, eqb}
+use Rattle.std.specs.Prelude.{ℕ, zero, suc, ◌-◌, cond, List, [], ◌∷◌, get_or, set, eqb}
 use Rattle.formula.specs.Sheet.{shape_at, named_in}
 
 -- How often a row is named so far: 0 never, 1 once, 2 more than once.

@@ -1,3 +1,2 @@
-pub mod Others
 pub mod LowerRows
 pub mod Told

@@ -9,8 +9,8 @@ use borrow.Author.Tests.{lt-leb}
 use native.Mathlib.Omega.{arith}
 use Rattle.formula.specs.declared.Shape.{Shape}
 use Rattle.formula.specs.declared.Shape.TheVariants.{Identifier, Constant, Pair, Operator, Let, If, For, Iter}
-use Rattle.formula.specs.declared.Check.{Check}
-use Rattle.formula.specs.declared.Check.TheVariants.{Passed, Fault}
+use Rattle.formula.specs.Results.{Check}
+use Rattle.std.specs.Prelude.{Ok, Err}
 use Rattle.formula.specs.Sheet.{shape_at, named_in}
 use Rattle.formula.specs.TreeLaws.{AllBetween, Named}
 use Rattle.formula.proofs.TreeLaws.{between-as}
@@ -24,17 +24,17 @@ use Rattle.sheet_kinds.specs.Walk.{parted}
 
 -- No row at fault from row r on.
 abbrev Before : ℕ → Check → Type 0
-Before r Passed = Unit {0}
-Before r (Fault k) = k < r
+Before r (Ok _) = Unit {0}
+Before r (Err k) = k < r
 
 before_more : (k r : ℕ) → k ≤ r → (c : Check) → Before k c → Before r c
-before_more k r l Passed h = tt
-before_more k r l (Fault j) h = omega arith
+before_more k r l (Ok _) h = tt
+before_more k r l (Err j) h = omega arith
 
 before-both : (r : ℕ) (x y : Check) → Before r x → Before r y → Before r (lesser x y)
-before-both r Passed y p q = q
-before-both r (Fault a) Passed p q = p
-before-both r (Fault a) (Fault b) p q = go (leb a b)
+before-both r (Ok _) y p q = q
+before-both r (Err a) (Ok _) p q = p
+before-both r (Err a) (Err b) p q = go (leb a b)
   where
     go : (z : Bool) → cond z a b < r
     go true = p
@@ -63,31 +63,31 @@ before-below r F p t b ks (For a n x y) h = before-append r (F false ks x) (F tr
 before-below r F p t b ks (Iter x) h = p false ks x h.0
 
 -- A row's own fault counts where nothing below it is at fault.
-settled : (r : ℕ) (sort ok : Bool) (below : Check) → Before r below → (below ≡ Passed → ok ≡ sort) → lesser (own r sort) below ≡ lesser (own r ok) below
-settled r sort ok Passed l h = ap (λ (z : Bool). lesser (own r z) Passed) (sym (h refl))
-settled r sort ok (Fault k) l h = same sort ∙ sym (same ok)
+settled : (r : ℕ) (sort ok : Bool) (below : Check) → Before r below → (below ≡ Ok tt → ok ≡ sort) → lesser (own r sort) below ≡ lesser (own r ok) below
+settled r sort ok (Ok _) l h = ap (λ (z : Bool). lesser (own r z) (Ok tt)) (sym (h refl))
+settled r sort ok (Err k) l h = same sort ∙ sym (same ok)
   where
-    same : (z : Bool) → lesser (own r z) (Fault k) ≡ Fault k
+    same : (z : Bool) → lesser (own r z) (Err k) ≡ Err k
     same true = refl
-    same false = ap (λ (x : Bool). Fault (cond x r k)) (lt-leb r k l)
+    same false = ap (λ (x : Bool). Err (cond x r k)) (lt-leb r k l)
 
 abbrev Passes : Check → Type 0
-Passes Passed = Unit {0}
-Passes (Fault r) = ⊥
+Passes (Ok _) = Unit {0}
+Passes (Err r) = ⊥
 
 own-passed : (r : ℕ) (ok : Bool) (below : Check) → Passes (lesser (own r ok) below) → ok ≡ true
 own-passed r true below h = refl
-own-passed r false Passed h = absurd h
-own-passed r false (Fault k) h = absurd h
+own-passed r false (Ok _) h = absurd h
+own-passed r false (Err k) h = absurd h
 
-pub both-passed : (x y : Check) → lesser x y ≡ Passed → (x ≡ Passed) × (y ≡ Passed)
+pub both-passed : (x y : Check) → lesser x y ≡ Ok tt → (x ≡ Ok tt) × (y ≡ Ok tt)
 both-passed x y h = go x y (subst Passes (sym h) tt)
   where
-    go : (u v : Check) → Passes (lesser u v) → (u ≡ Passed) × (v ≡ Passed)
-    go Passed Passed p = (refl, refl)
-    go Passed (Fault k) p = absurd p
-    go (Fault a) Passed p = absurd p
-    go (Fault a) (Fault k) p = absurd p
+    go : (u v : Check) → Passes (lesser u v) → (u ≡ Ok tt) × (v ≡ Ok tt)
+    go (Ok _) (Ok _) p = (refl, refl)
+    go (Ok _) (Err k) p = absurd p
+    go (Err a) (Ok _) p = absurd p
+    go (Err a) (Err k) p = absurd p
 
 module _ (rule : Rule) (t : List ℕ) (n : ℕ) (ok : Named t n) where
   abbrev below : Bool → Kinds → Shape → Check
@@ -119,13 +119,13 @@ module _ (rule : Rule) (t : List ℕ) (n : ℕ) (ok : Named t n) where
 
   -- A part of the rule serves for it, where the rest holds as long as nothing below the row is at fault.
   pub row_settled : (r : ℕ) → 1 ≤ r → r ≤ n → (b : Bool) (ks : Kinds) (s : Shape) → shape_at t r ≡ s → (sort : Bool)
-      → (below b ks s ≡ Passed → rule (node_in b t r) ks ≡ sort)
+      → (below b ks s ≡ Ok tt → rule (node_in b t r) ks ≡ sort)
       → lesser (own r sort) (below b ks s) ≡ lowest_of (faults_at rule t b ks r)
   row_settled r l u b ks s e sort h =
       settled r sort (rule (node_in b t r) ks) (below b ks s) (below-before r l u b ks s e) h ∙ sym (row-parted r l u b ks s e)
 
   -- A row with no fault keeps the rule.
-  pub row_kept : (r : ℕ) → 1 ≤ r → r ≤ n → (b : Bool) (ks : Kinds) → lowest_of (faults_at rule t b ks r) ≡ Passed → rule (node_in b t r) ks ≡ true
+  pub row_kept : (r : ℕ) → 1 ≤ r → r ≤ n → (b : Bool) (ks : Kinds) → lowest_of (faults_at rule t b ks r) ≡ Ok tt → rule (node_in b t r) ks ≡ true
   row_kept r l u b ks h =
       own-passed r (rule (node_in b t r) ks) (below b ks (shape_at t r))
       (subst Passes (sym (sym (row-parted r l u b ks (shape_at t r) refl) ∙ h)) tt)

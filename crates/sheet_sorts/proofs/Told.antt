@@ -14,8 +14,8 @@ use Rattle.value.specs.Operators.{pick, operands}
 use Rattle.value.specs.Kinds.{same_kind, all_of, given, given-one}
 use Rattle.formula.specs.declared.Shape.{Shape}
 use Rattle.formula.specs.declared.Shape.TheVariants.{Identifier, Constant, Pair, Operator, Let, If, For, Iter}
-use Rattle.formula.specs.declared.Check.{Check}
-use Rattle.formula.specs.declared.Check.TheVariants.{Passed, Fault}
+use Rattle.formula.specs.Results.{Check}
+use Rattle.std.specs.Prelude.{Ok, Err}
 use Rattle.formula.specs.Sheet.{shape_at}
 use Rattle.formula.specs.Tree.{Exp, Body, ret, exp_node, body_node, exp_of, body_of}
 use Rattle.formula.proofs.TreeLaws.{and-true, exp-as, body-as}
@@ -95,29 +95,29 @@ module _ (t ws : List ℕ) (kinds : Kinds) (r : ℕ) where
   node-as true h s e = ap body (body-as t h.rows h.accepted.named r h.low h.high s e)
 
   settled : (b : Bool) → InPlace t ws b r → (s : Shape) → shape_at t r ≡ s → (sort : Bool)
-      → (lowest_below t b kinds s ≡ Passed → drifting (node_in b t r) kinds ≡ sort)
+      → (lowest_below t b kinds s ≡ Ok tt → drifting (node_in b t r) kinds ≡ sort)
       → lesser (own r sort) (lowest_below t b kinds s) ≡ lowest_at t b kinds r
   settled false h s e sort f = row_settled drifting t h.rows h.accepted.named r h.low h.high false kinds s e sort f
   settled true h s e sort f = row_settled drifting t h.rows h.accepted.named r h.low h.high true kinds s e sort f
 
   tell : (b : Bool) → InPlace t ws b r → (s : Shape) → shape_at t r ≡ s → (sort : Bool)
-      → (lowest_below t b kinds s ≡ Passed → drifting (node_by b t s) kinds ≡ sort)
+      → (lowest_below t b kinds s ≡ Ok tt → drifting (node_by b t s) kinds ≡ sort)
       → lesser (own r sort) (lowest_below t b kinds s) ≡ lowest_at t b kinds r
   tell b h s e sort f = settled b h s e sort (λ p. ap (λ (x : Node). drifting x kinds) (node-as b h s e) ∙ f p)
 
-  exp-whole : ExpRow t ws r → lowest_at t false kinds r ≡ Passed → Wholes (kinds_e (exp_of t r) kinds)
+  exp-whole : ExpRow t ws r → lowest_at t false kinds r ≡ Ok tt → Wholes (kinds_e (exp_of t r) kinds)
   unfolding drifting node_in
   exp-whole h p =
       (and-true (sort_e (exp_of t r)) (all_of whole-kind (kinds_e (exp_of t r) kinds))
       (row_kept drifting t h.rows h.accepted.named r h.low h.high false kinds p)).1
 
-  body-whole : BodyRow t ws r → lowest_at t true kinds r ≡ Passed → Wholes (returned_kinds (body_of t r) kinds ++ iterated_kinds (body_of t r) kinds)
+  body-whole : BodyRow t ws r → lowest_at t true kinds r ≡ Ok tt → Wholes (returned_kinds (body_of t r) kinds ++ iterated_kinds (body_of t r) kinds)
   unfolding drifting node_in
   body-whole h p =
       (and-true (sort_b (body_of t r)) (all_of whole-kind (returned_kinds (body_of t r) kinds ++ iterated_kinds (body_of t r) kinds))
       (row_kept drifting t h.rows h.accepted.named r h.low h.high true kinds p)).1
 
-unasked : (r : ℕ) (x : Bool) → own r x ≡ lesser (own r x) Passed
+unasked : (r : ℕ) (x : Bool) → own r x ≡ lesser (own r x) (Ok tt)
 unasked r true = refl
 unasked r false = refl
 
@@ -173,7 +173,7 @@ module _ (t ws : List ℕ) (kinds : Kinds) (r : ℕ) where
           ∙ both
           ∙ tell t ws kinds r false h (Pair x y) e true
           (λ n.
-          let none : (lowest_at t false kinds x ≡ Passed) × (lowest_at t false kinds y ≡ Passed) =
+          let none : (lowest_at t false kinds x ≡ Ok tt) × (lowest_at t false kinds y ≡ Ok tt) =
           both-passed (lowest_at t false kinds x) (lowest_at t false kinds y) (both ∙ n)
           in
           wholes-append (kinds_e (exp_of t x) kinds) (kinds_e (exp_of t y) kinds)
@@ -226,16 +226,16 @@ module _ (t ws : List ℕ) (kinds : Kinds) (r : ℕ) where
       both : lesser (lowest_at t false kinds x) (lowest_at t b ks y) ≡ lowest_below t b kinds (Let a n x y)
       both = sym (lowest-append (faults_at drifting t false kinds x) (faults_at drifting t b ks y))
 
-      rule : (z : Bool) → InPlace t ws z y → lowest_at t z ks y ≡ Passed → drifting (node_by z t (Let a n x y)) kinds ≡ true
+      rule : (z : Bool) → InPlace t ws z y → lowest_at t z ks y ≡ Ok tt → drifting (node_by z t (Let a n x y)) kinds ≡ true
       rule false row none = exp-whole t ws ks y row none
       rule true row none = body-whole t ws ks y row none
 
   pub tell-if : (x y z : ℕ) → shape_at t r ≡ If x y z → (f g c : Check) → Answers t ws x kinds f → Answers t ws y kinds g → Answers t ws z kinds c
-      → Answers t ws r kinds (lesser (Fault r) (lesser f (lesser g c)))
+      → Answers t ws r kinds (lesser (Err r) (lesser f (lesser g c)))
   unfolding drifting sort_e sort_b exp_node body_node faults_below
   tell-if x y z e f g c p q s b h =
-      (λ j. lesser (Fault r) (lesser (p false k.0.0 j) (lesser (q b k.1.0 j) (s b k.2.0 j))))
-      ∙ ap (lesser (Fault r)) (sym (three (faults_at drifting t false kinds x) (faults_at drifting t b kinds y) (faults_at drifting t b kinds z)))
+      (λ j. lesser (Err r) (lesser (p false k.0.0 j) (lesser (q b k.1.0 j) (s b k.2.0 j))))
+      ∙ ap (lesser (Err r)) (sym (three (faults_at drifting t false kinds x) (faults_at drifting t b kinds y) (faults_at drifting t b kinds z)))
       ∙ tell t ws kinds r b h (If x y z) e false (λ none. rule b)
     where
       k : Parts t ws b r (If x y z)
@@ -246,22 +246,22 @@ module _ (t ws : List ℕ) (kinds : Kinds) (r : ℕ) where
       rule true = refl
 
   pub tell-for : (a n x y : ℕ) → shape_at t r ≡ For a n x y → (inner : Kinds) → inner ≡ bind_kinds a (W ws x) (kinds_e (exp_of t x) kinds) kinds
-      → (f g : Check) → Answers t ws x kinds f → Answers t ws y inner g → Answers t ws r kinds (lesser (Fault r) (lesser f g))
+      → (f g : Check) → Answers t ws x kinds f → Answers t ws y inner g → Answers t ws r kinds (lesser (Err r) (lesser f g))
   unfolding drifting sort_e exp_node faults_below
   tell-for a n x y e inner i f g p q =
-      plainly (For a n x y) e tt (lesser (Fault r) (lesser f g)) (λ h. by h (parts t ws false r h (For a n x y) e))
+      plainly (For a n x y) e tt (lesser (Err r) (lesser f g)) (λ h. by h (parts t ws false r h (For a n x y) e))
     where
-      by : ExpRow t ws r → Parts t ws false r (For a n x y) → lesser (Fault r) (lesser f g) ≡ lowest_at t false kinds r
+      by : ExpRow t ws r → Parts t ws false r (For a n x y) → lesser (Err r) (lesser f g) ≡ lowest_at t false kinds r
       by h k =
           let ks : Kinds = bind_kinds a n (kinds_e (exp_of t x) kinds) kinds in
           let same : inner ≡ ks = i ∙ ap (λ (m : ℕ). bind_kinds a m (kinds_e (exp_of t x) kinds) kinds) k.2.0 in
-          (λ j. lesser (Fault r) (lesser (p false k.0.0 j) ((q true k.1.0 ∙ ap (λ (ls : Kinds). lowest_at t true ls y) same) j)))
-          ∙ ap (lesser (Fault r)) (sym (lowest-append (faults_at drifting t false kinds x) (faults_at drifting t true ks y)))
+          (λ j. lesser (Err r) (lesser (p false k.0.0 j) ((q true k.1.0 ∙ ap (λ (ls : Kinds). lowest_at t true ls y) same) j)))
+          ∙ ap (lesser (Err r)) (sym (lowest-append (faults_at drifting t false kinds x) (faults_at drifting t true ks y)))
           ∙ tell t ws kinds r false h (For a n x y) e false (λ none. refl)
 
-  pub tell-iter : (x : ℕ) → shape_at t r ≡ Iter x → (f : Check) → Answers t ws x kinds f → Answers t ws r kinds (lesser (Fault r) f)
+  pub tell-iter : (x : ℕ) → shape_at t r ≡ Iter x → (f : Check) → Answers t ws x kinds f → Answers t ws r kinds (lesser (Err r) f)
   unfolding drifting sort_b body_node faults_below
   tell-iter x e f p false h = absurd (exp-children t ws r h (Iter x) e)
   tell-iter x e f p true h =
-      ap (lesser (Fault r)) (p false (parts t ws true r h (Iter x) e).0)
+      ap (lesser (Err r)) (p false (parts t ws true r h (Iter x) e).0)
       ∙ tell t ws kinds r true h (Iter x) e false (λ none. refl)

@@ -1,6 +1,6 @@
 -- What sheet_movement's specs/Sorts asks of an operator's operand row, read off the table's rows; and that it is the same of the row's tree.
 use Rattle.std.specs.Prelude.{ℕ, ◌*◌, ◌≤◌, ◌≡◌, refl, Bool, true, false, not, ◌&&◌, ◌||◌, List, eqb, length}
-use Rattle.std.proofs.Common.{sym, ap, ◌∙◌, subst, arith}
+use Rattle.std.proofs.Common.{sym, ap, ◌∙◌, arith}
 use Rattle.value.specs.Operators.{pick}
 use Rattle.formula.specs.declared.Shape.{Shape}
 use Rattle.formula.specs.declared.Shape.TheVariants.{Identifier, Constant, Pair, Operator, Let, If, For, Iter}
@@ -15,16 +15,6 @@ use Rattle.sheet_movement.specs.Sorts.{is_whole, amount, names_whole, divides_by
 -- A row of the table that names only rows before it.
 abbrev pub Known : List ℕ → ℕ → Type 0
 Known t r = (1 ≤ r) × (5 * r ≤ length t) × AllBetween r (named_in (shape_at t r))
-
--- So are the rows that a pair names.
-pub pair-known : (t : List ℕ) (r a b : ℕ) → Known t r → shape_at t r ≡ Pair a b
-    → ((1 ≤ a) × (5 * a ≤ length t)) × ((1 ≤ b) × (5 * b ≤ length t))
-unfolding named_in
-pair-known t r a b k e =
-    let named : AllBetween r (named_in (Pair a b)) = subst (λ (s : Shape). AllBetween r (named_in s)) e k.2 in (
-      (named.0.0, omega (arith, named.0.1, k.1)),
-      (named.1.0.0, omega (arith, named.1.0.1, k.1)),
-    )
 
 abbrev pub whole_row : Shape → Bool
 whole_row (Identifier a) = false

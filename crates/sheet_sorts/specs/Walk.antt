@@ -3,7 +3,7 @@ use Rattle.std.specs.Prelude.{ℕ, ◌+◌, ◌*◌, ◌≤◌, ◌<◌, ◌≡�
 use Rattle.std.proofs.Common.{sym, subst, arith}
 use Rattle.formula.specs.declared.Shape.{Shape}
 use Rattle.formula.specs.declared.Shape.TheVariants.{Identifier, Constant, Pair, Operator, Let, If, For, Iter}
-use Rattle.formula.specs.declared.Check.{Check}
+use Rattle.formula.specs.Results.{Check}
 use Rattle.formula.specs.Sheet.{shape_at}
 use Rattle.formula.specs.Kinds.{Kinds}
 use Rattle.formula.specs.Faults.{lowest_of}

@@ -24,10 +24,7 @@ pub fn is_whole(t: &[u32], r: usize) -> bool
     requires { (1 ≤ r) × (5 * r ≤ length t.now) }
     ensures { result ≡ whole_row (shape_at t.now r) }
 {
-    let Shape::Constant(kind, _) = shape_at(t, r) else {
-        return false;
-    };
-    kind == WHOLE_ROW
+    matches!(shape_at(t, r), Shape::Constant(WHOLE_ROW, _))
 }
 
 // A constant's a, 0 of another row.
@@ -42,6 +39,7 @@ pub fn amount(t: &[u32], r: usize) -> u32
 }
 
 // Whether row r is a pair that names a whole constant.
+#[tactic(auto, unfolding(formula::specs::Sheet::named_in))]
 fn names_whole(t: &[u32], r: usize) -> bool
     requires { Known t.now r }
     ensures { result ≡ names_whole_row t.now (shape_at t.now r) }
@@ -49,13 +47,11 @@ fn names_whole(t: &[u32], r: usize) -> bool
     let Shape::Pair(a, b) = shape_at(t, r) else {
         return false;
     };
-    if is_whole(t, a) {
-        return true;
-    }
-    is_whole(t, b)
+    is_whole(t, a) || is_whole(t, b)
 }
 
 // Whether row r is a pair with b naming a whole constant that is not 0.
+#[tactic(auto, unfolding(formula::specs::Sheet::named_in))]
 fn divides_by_whole(t: &[u32], r: usize) -> bool
     requires { Known t.now r }
     ensures { result ≡ divides_by_whole_row t.now (shape_at t.now r) }
@@ -63,10 +59,7 @@ fn divides_by_whole(t: &[u32], r: usize) -> bool
     let Shape::Pair(_, b) = shape_at(t, r) else {
         return false;
     };
-    if !is_whole(t, b) {
-        return false;
-    }
-    amount(t, b) != 0
+    is_whole(t, b) && amount(t, b) != 0
 }
 
 // Whether drift is told for the operator of a code on row r.
@@ -75,9 +68,7 @@ pub fn code_sort(t: &[u32], code: u32, r: usize) -> bool
     ensures { result ≡ code_row t.now code (shape_at t.now r) }
 {
     match code {
-        ADD => true,
-        SUBTRACT => true,
-        NEGATE => true,
+        ADD | SUBTRACT | NEGATE => true,
         MULTIPLY => names_whole(t, r),
         DIVIDE => divides_by_whole(t, r),
         _ => false,

@@ -14,16 +14,15 @@ ghost use Rattle.sheet_movement.specs.Sorts.{sorts_kept};
 ghost use Rattle.sheet_sorts.specs.Walk.{Placed, Answers};
 
 use crate::constants::{WHOLE_ROW, code_sort};
-use eval_words::words::wide;
-use formula::{Check, Shape};
+use formula::Shape;
 use sheet_fields::shape::shape_at;
-use sheet_kinds::bytes::{WHOLE, copied, same_kind};
+use sheet_kinds::bytes::{WHOLE, same_kind};
 use sheet_kinds::checks::{lower, own};
 use sheet_kinds::line::tell_kinds;
 use sheet_kinds::walk::exp_kinds;
 
 // The lowest row at fault among row r and those below it, where the identifiers have these kinds.
-fn other_sort(t: &[u32], widths: &[u8], r: usize, env: &[u8; 32]) -> Check
+fn other_sort(t: &[u32], widths: &[u8], r: usize, env: &[u8; 32]) -> Result<(), usize>
     requires { Placed t.now widths.now r × (length env.now ≡ 32) }
     ensures { Answers t.now widths.now r (kinds_in env.now) result }
 {
@@ -48,14 +47,14 @@ fn other_sort(t: &[u32], widths: &[u8], r: usize, env: &[u8; 32]) -> Check
             let test = other_sort(t, widths, a, env);
             let first = other_sort(t, widths, b, env);
             let second = other_sort(t, widths, c, env);
-            lower(Check::Fault(r), lower(test, lower(first, second)))
+            lower(Err(r), lower(test, lower(first, second)))
         }
         Shape::For(a, _, c, d) => {
             let start = other_sort(t, widths, c, env);
             let round = other_sort(t, widths, d, &bound(t, widths, a, c, env));
-            lower(Check::Fault(r), lower(start, round))
+            lower(Err(r), lower(start, round))
         }
-        Shape::Iter(a) => lower(Check::Fault(r), other_sort(t, widths, a, env)),
+        Shape::Iter(a) => lower(Err(r), other_sort(t, widths, a, env)),
     }
 }
 
@@ -64,13 +63,13 @@ fn bound(t: &[u32], widths: &[u8], a: u32, c: usize, env: &[u8; 32]) -> [u8; 32]
     requires { ExpRow t.now widths.now c × (length env.now ≡ 32) × (a + W widths.now c ≤ 32) }
     ensures { kinds_in result ≡ bind_kinds a (W widths.now c) (kinds_e (exp_of t.now c) (kinds_in env.now)) (kinds_in env.now) }
 {
-    let mut inner = copied(env);
-    exp_kinds(t, widths, c, env, &mut inner, wide(a));
+    let mut inner = *env;
+    let _ = exp_kinds(t, widths, c, env, &mut inner, a as usize);
     inner
 }
 
 // Row n as the formula, whose free names are the mask `free`: the lowest row at fault under the kinds that a line tells its inputs.
-pub fn test_sorts(t: &[u32], widths: &[u8], n: usize, free: u64, line: &[u8]) -> Check
+pub fn test_sorts(t: &[u32], widths: &[u8], n: usize, free: u64, line: &[u8]) -> Result<(), usize>
     requires { ExpRow t.now widths.now n × (free ≡ mask (free_e (exp_of t.now n))) × (line_well (length (inputs_of (exp_of t.now n))) line.now ≡ true) }
     ensures { result ≡ sorts_kept t.now n line.now }
 {

@@ -9,7 +9,7 @@ use lib.Dec.{eqb}
 use lib.ListN.{get_or, set, replicate, length-set}
 use borrow.Author.Tests.{le-leb, ne_eqb}
 use Rattle.names.specs.Names.{mask}
-use Rattle.formula.specs.declared.Check.TheVariants.{Passed}
+use Rattle.std.specs.Prelude.{Ok}
 use Rattle.formula.specs.declared.Shape.{Shape}
 use Rattle.formula.specs.declared.Shape.TheVariants.{Identifier, Constant, Pair, Operator, Let, If, For, Iter}
 use Rattle.formula.specs.Sheet.{field, shape_of, shape_at, named_in}
@@ -115,7 +115,7 @@ module _ (t w m : List ℕ) (r : ℕ) (a : 1 ≤ r) (q : Content (field_row t r)
         go (yes e) = ap (names_well t) e ∙ names-as true names
         go (no e) = (stands-says t k (f.stand k b (omega arith))).names
 
-    pub all-name-well : lowest r (names_well t) ≡ Passed
+    pub all-name-well : lowest r (names_well t) ≡ Ok tt
     all-name-well = each-passed r (names_well t) all-well
 
     pub between : AllBetween r (named_in s)

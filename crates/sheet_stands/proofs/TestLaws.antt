@@ -6,11 +6,9 @@ use mathlib.Core.List.{List, [], ◌∷◌}
 use native.Mathlib.Omega.{arith}
 use lib.ListN.{length, replicate}
 use borrow.Author.Tests.{le-leb}
-use Rattle.formula.specs.declared.Check.{Check}
-use Rattle.formula.specs.declared.Check.TheVariants.{Passed, Fault}
+use Rattle.formula.specs.Results.{Check, Verdict, refused}
+use Rattle.std.specs.Prelude.{Ok, Err}
 use Rattle.formula.specs.declared.Refusal.{Refusal}
-use Rattle.formula.specs.declared.Verdict.{Verdict}
-use Rattle.formula.specs.declared.Verdict.TheVariants.{Passed as passed, Refused}
 use Rattle.formula.specs.Sheet.{row_count, fields_of, field, shape_at, named_in}
 use Rattle.formula.specs.Places.{places_of}
 use Rattle.formula.specs.Tests.{lowest, is-passed, ranges_well, names_well, all_named, named_once, placed_well, widths_well, bound_well, after_check, verdict_by, row_tests, formula_tests, sheet_of}
@@ -30,17 +28,17 @@ use Rattle.sheet_listed.proofs.Texts.{small-has}
 use Rattle.sheet_listed.proofs.Passing.{not-small}
 use Rattle.sheet_stands.specs.Tests.{all_once, formula_passes, tables_pass}
 
-pub is-well : (c : Check) → is-passed c ≡ true → c ≡ Passed
-is-well Passed h = refl
-is-well (Fault r) h = absurd (false≢true h)
+pub is-well : (c : Check) → is-passed c ≡ true → c ≡ Ok tt
+is-well (Ok _) h = refl
+is-well (Err r) h = absurd (false≢true h)
 
 -- ---- rows named once
 
 -- The last row's names have room in a tally of all rows.
-pub last-names : (t : List ℕ) (r : ℕ) → 1 ≤ r → lowest r (names_well t) ≡ Passed → AllBetween (r + 1) (named_in (shape_at t r))
+pub last-names : (t : List ℕ) (r : ℕ) → 1 ≤ r → lowest r (names_well t) ≡ Ok tt → AllBetween (r + 1) (named_in (shape_at t r))
 last-names t r a h = between-wider r (r + 1) (named_in (shape_at t r)) (omega arith) ((named_by t r h).names r a (omega arith))
 
-pub once-tallied : (t l : List ℕ) (r : ℕ) → lowest r (names_well t) ≡ Passed → l ≡ replicate r 0 → (xs : List ℕ) → AllBetween (r + 1) xs
+pub once-tallied : (t l : List ℕ) (r : ℕ) → lowest r (names_well t) ≡ Ok tt → l ≡ replicate r 0 → (xs : List ℕ) → AllBetween (r + 1) xs
     → all_once (tallied t r l) xs ≡ once_each xs (all_named t r)
 once-tallied t l r h z [] b = refl
 once-tallied t l r h z (x ∷ xs) b = rw (tallied-row t l r h z x b.0.0 (omega (arith, b.0.1)), once-tallied t l r h z xs b.1) refl
@@ -49,14 +47,14 @@ once-tallied t l r h z (x ∷ xs) b = rw (tallied-row t l r h z x b.0.0 (omega (
 
 two-tests : (i j : Refusal) (a b : Check) (v : Verdict) → is_passed (after_check i a (after_check j b v)) ≡ (is-passed a && (is-passed b && is_passed v))
 unfolding after_check
-two-tests i j Passed Passed v = refl
-two-tests i j Passed (Fault r) v = refl
-two-tests i j (Fault r) b v = refl
+two-tests i j (Ok _) (Ok _) v = refl
+two-tests i j (Ok _) (Err r) v = refl
+two-tests i j (Err r) b v = refl
 
 pub tables-by : (t : List ℕ) (n : ℕ) (p : List Bool) → tables_pass t n p ≡ (is-passed (lowest n (widths_well t p)) && is-passed (lowest n (bound_well t p)))
 unfolding tables_pass verdict_by formula_tests
 tables-by t n p =
-    two-tests _ _ (lowest n (widths_well t p)) (lowest n (bound_well t p)) passed
+    two-tests _ _ (lowest n (widths_well t p)) (lowest n (bound_well t p)) (Ok tt)
     ∙ ap (λ (b : Bool). is-passed (lowest n (widths_well t p)) && b) (and-true-last (is-passed (lowest n (bound_well t p))))
 
 pub passes-by : (t : List ℕ) (n : ℕ)
@@ -78,28 +76,28 @@ module _ (s : List ℕ) where
   pub long-not-small : 155 < length s → is_small s ≡ false
   long-not-small l = not-small s (λ h. omega (arith, (small-has s h).few, (small-has s h).rowwise.bytes))
 
-  pub refused-not-small : (r : Refusal) (row : ℕ) → row_verdict s ≡ Refused r row → is_small s ≡ false
+  pub refused-not-small : (r : Refusal) (row : ℕ) → row_verdict s ≡ refused r row → is_small s ≡ false
   refused-not-small r row e = not-small s (λ h. let z : ◌≡◌ {A = ℕ} 0 1 = cc (e, rowwise-passes s (small-has s h).rowwise) in omega arith)
 
   pub not-modest : is-passed (lowest (row_count s) (modest_row (fields_of s))) ≡ false → is_small s ≡ false
   not-modest e =
       not-small s (λ h. false≢true (sym e ∙ ap is-passed (each-passed (row_count s) (modest_row (fields_of s)) (small-has s h).modestly)))
 
-  module _ (h : row_verdict s ≡ passed) (t : List ℕ) (e : t ≡ fields_of s) where
+  module _ (h : row_verdict s ≡ Ok tt) (t : List ℕ) (e : t ≡ fields_of s) where
     pub table-size : length t ≡ 5 * row_count s
     table-size = ap length e ∙ fields-length s
 
-    pub rows-ranged : lowest (row_count s) (ranges_well t) ≡ Passed
+    pub rows-ranged : lowest (row_count s) (ranges_well t) ≡ Ok tt
     rows-ranged = rw e (each-passed (row_count s) (ranges_well (fields_of s)) (passes-rowwise s h).ranged)
 
-    pub rows_named : lowest (row_count s) (names_well t) ≡ Passed
+    pub rows_named : lowest (row_count s) (names_well t) ≡ Ok tt
     rows_named = rw e (each-passed (row_count s) (names_well (fields_of s)) (passes-rowwise s h).names)
 
-  by-formula : row_verdict s ≡ passed → passes_nine s ≡ formula_passes (fields_of s) (row_count s)
+  by-formula : row_verdict s ≡ Ok tt → passes_nine s ≡ formula_passes (fields_of s) (row_count s)
   unfolding passes_nine row_verdict formula_passes verdict_by formula_tests sheet_of
   by-formula h = ap is_passed (then-behind (sheet_of s) row_tests formula_tests ∙ ap (λ (v : Verdict). then v (verdict_by formula_tests (sheet_of s))) h)
 
-  pub small-decides : row_verdict s ≡ passed → row_count s ≤ 5 → is-passed (lowest (row_count s) (modest_row (fields_of s))) ≡ true
+  pub small-decides : row_verdict s ≡ Ok tt → row_count s ≤ 5 → is-passed (lowest (row_count s) (modest_row (fields_of s))) ≡ true
       → is_small s ≡ formula_passes (fields_of s) (row_count s)
   unfolding is_small
   small-decides h few m = rw (le-leb (row_count s) 5 few, m, and-true-last (passes_nine s && true), and-true-last (passes_nine s)) (by-formula h)

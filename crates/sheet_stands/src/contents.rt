@@ -138,22 +138,11 @@ pub fn row_at(t: &[u32], r: usize) -> RowFields
     )
 }
 
+#[tactic(auto, unfolding(sheet_listed::specs::Search::same_row))]
 fn same_row(x: RowFields, y: RowFields) -> bool
     ensures { result ≡ same_row (listed x) (listed y) }
 {
-    if x.kind != y.kind {
-        return false;
-    }
-    if x.a != y.a {
-        return false;
-    }
-    if x.b != y.b {
-        return false;
-    }
-    if x.c != y.c {
-        return false;
-    }
-    x.d == y.d
+    x == y
 }
 
 // The number of row r of a table, which has one.
@@ -162,12 +151,10 @@ pub fn number_of(t: &[u32], r: usize) -> usize
     ensures { result ≡ place_of (field_row t.now r) }
 {
     let given = row_at(t, r);
-    let mut k = 0;
-    while k < CONTENTS {
+    for k in 0..CONTENTS {
         if same_row(content(k), given) {
             return k;
         }
-        k += 1;
     }
     CONTENTS
 }

@@ -1,7 +1,6 @@
 // Whether a row can stand in a small sheet, whether rows are a small sheet, and whether a given sheet is one (document 02, Job 14). Rows stand as
 // sheet_listed's specs/Search says; the tests of whole rows are the reader's.
-ghost use Rattle.std.specs.Prelude.{◌≡◌, true, false, ◌||◌, ◌&&◌, ◌+◌, ◌*◌, ◌-◌, ◌≤◌, ◌<◌, eqb, leb, length, get_or, take};
-ghost use Rattle.formula.specs.declared.Check.TheVariants.{Passed};
+ghost use Rattle.std.specs.Prelude.{◌≡◌, true, false, ◌||◌, ◌&&◌, ◌+◌, ◌*◌, ◌-◌, ◌≤◌, ◌<◌, eqb, leb, length, get_or, take, Ok};
 ghost use Rattle.formula.specs.Sheet.{row_count, fields_of, shape_at, named_in};
 ghost use Rattle.formula.specs.Tests.{lowest, is-passed, ranges_well, names_well, all_named};
 ghost use Rattle.formula.specs.TreeLaws.{AllBetween};
@@ -12,7 +11,7 @@ ghost use Rattle.sheet_listed.specs.Texts.{field_row};
 ghost use Rattle.sheet_stands.specs.Fronts.{Content, Front};
 ghost use Rattle.sheet_stands.specs.Tests.{all_once, formula_passes, tables_pass};
 
-use formula::{Check, Shape, Verdict};
+use formula::Shape;
 use sheet_fields::layout::ROW_BYTES;
 use sheet_fields::shape::{FIELDS, field_at, shape_at};
 use sheet_read::read::row_tests;
@@ -47,42 +46,25 @@ fn once(times: &[u8], r: usize) -> bool
     times[r - 1] == ONCE
 }
 
-fn both_once(times: &[u8], x: usize, y: usize) -> bool
-    requires { (1 ≤ x) × (x ≤ length times.now) × (1 ≤ y) × (y ≤ length times.now) }
-    ensures { result ≡ (eqb (get_or times.now (x - 1) 0) 1 && eqb (get_or times.now (y - 1) 0) 1) }
-{
-    if !once(times, x) {
-        return false;
-    }
-    once(times, y)
-}
-
 // Whether a tally has each row that a row of shape s names as named once.
+#[tactic(auto, unfolding(formula::specs::Sheet::named_in, crate::specs::Tests::all_once))]
 fn each_once(times: &[u8], s: Shape) -> bool
     requires { AllBetween (length times.now + 1) (named_in s) }
     ensures { result ≡ all_once times.now (named_in s) }
 {
     match s {
-        Shape::Identifier(_) => true,
-        Shape::Constant(_, _) => true,
-        Shape::Pair(a, b) => both_once(times, a, b),
-        Shape::Operator(_, b) => once(times, b),
-        Shape::Let(_, _, c, d) => both_once(times, c, d),
-        Shape::If(a, b, c) => {
-            if once(times, a) {
-                both_once(times, b, c)
-            } else {
-                false
-            }
+        Shape::Identifier(_) | Shape::Constant(_, _) => true,
+        Shape::Operator(_, a) | Shape::Iter(a) => once(times, a),
+        Shape::Pair(a, b) | Shape::Let(_, _, a, b) | Shape::For(_, _, a, b) => {
+            once(times, a) && once(times, b)
         }
-        Shape::For(_, _, c, d) => both_once(times, c, d),
-        Shape::Iter(a) => once(times, a),
+        Shape::If(a, b, c) => once(times, a) && once(times, b) && once(times, c),
     }
 }
 
 // Whether row r, the last of a table, names only rows that no other field names.
 fn names_once(t: &[u32], r: usize) -> bool
-    requires { (length t.now ≡ 5 * r) × (1 ≤ r) × (r ≤ 5) × (lowest r (names_well t.now) ≡ Passed) }
+    requires { (length t.now ≡ 5 * r) × (1 ≤ r) × (r ≤ 5) × (lowest r (names_well t.now) ≡ Ok tt) }
     ensures { result ≡ once_each (named_in (shape_at t.now r)) (all_named t.now r) }
 {
     let mut times = [0; SMALL_ROWS];
@@ -117,15 +99,6 @@ pub fn stands(t: &[u32], r: usize, widths: &mut [u8], masks: &mut [u64]) -> bool
     true
 }
 
-fn passed(c: Check) -> bool
-    ensures { result ≡ is-passed c }
-{
-    match c {
-        Check::Passed => true,
-        Check::Fault(_) => false,
-    }
-}
-
 // Tests 8 and 9 of n rows in these places.
 fn tables_pass(t: &[u32], n: usize, places: &[bool]) -> bool
     requires { (Ready t.now n places.now) × (n ≤ 5) }
@@ -134,23 +107,23 @@ fn tables_pass(t: &[u32], n: usize, places: &[bool]) -> bool
     let mut returned = [0; SMALL_ROWS];
     let mut iterated = [0; SMALL_ROWS];
     let mut masks = [0; SMALL_ROWS];
-    if !passed(test_widths(t, n, places, &mut returned[..n], &mut iterated[..n])) {
+    if !test_widths(t, n, places, &mut returned[..n], &mut iterated[..n]).is_ok() {
         return false;
     }
-    passed(test_bound(t, n, places, &mut masks[..n]))
+    test_bound(t, n, places, &mut masks[..n]).is_ok()
 }
 
 // Tests 6 to 9 of n rows.
 pub fn passes(t: &[u32], n: usize) -> bool
-    requires { (length t.now ≡ 5 * n) × (1 ≤ n) × (n ≤ 5) × (lowest n (ranges_well t.now) ≡ Passed) × (lowest n (names_well t.now) ≡ Passed) }
+    requires { (length t.now ≡ 5 * n) × (1 ≤ n) × (n ≤ 5) × (lowest n (ranges_well t.now) ≡ Ok tt) × (lowest n (names_well t.now) ≡ Ok tt) }
     ensures { result ≡ formula_passes t.now n }
 {
-    if !passed(test_named(t, n)) {
+    if !test_named(t, n).is_ok() {
         return false;
     }
     let mut places = [false; SMALL_ROWS];
     find_places(t, n, &mut places[..n]);
-    if !passed(test_places(t, n, &places[..n])) {
+    if !test_places(t, n, &places[..n]).is_ok() {
         return false;
     }
     tables_pass(t, n, &places[..n])
@@ -160,25 +133,18 @@ pub fn passes(t: &[u32], n: usize) -> bool
 fn binds_modestly(a: u32, b: u32) -> bool
     ensures { result ≡ leb (a + b) 2 }
 {
-    if MODEST_IDENTIFIERS < b {
-        return false;
-    }
-    a <= MODEST_IDENTIFIERS - b
+    b <= MODEST_IDENTIFIERS && a <= MODEST_IDENTIFIERS - b
 }
 
 // "identifiers and constants 0 and 1"
+#[tactic(auto, unfolding(sheet_listed::specs::Small::modest))]
 fn modest(s: Shape) -> bool
     ensures { result ≡ modestShape s }
 {
     match s {
-        Shape::Identifier(a) => a <= LAST_MODEST,
-        Shape::Constant(_, a) => a <= LAST_MODEST,
-        Shape::Pair(_, _) => true,
-        Shape::Operator(_, _) => true,
-        Shape::Let(a, b, _, _) => binds_modestly(a, b),
-        Shape::If(_, _, _) => true,
-        Shape::For(a, b, _, _) => binds_modestly(a, b),
-        Shape::Iter(_) => true,
+        Shape::Identifier(a) | Shape::Constant(_, a) => a <= LAST_MODEST,
+        Shape::Let(a, b, _, _) | Shape::For(a, b, _, _) => binds_modestly(a, b),
+        Shape::Pair(_, _) | Shape::Operator(_, _) | Shape::If(_, _, _) | Shape::Iter(_) => true,
     }
 }
 
@@ -201,12 +167,10 @@ fn modest_rows(t: &[u32], n: usize) -> bool
     requires { 5 * n ≤ length t.now }
     ensures { result ≡ is-passed (lowest n (modest_row t.now)) }
 {
-    let mut i = 0;
-    while i < n {
+    for i in 0..n {
         if !modest_row(t, i + 1) {
             return false;
         }
-        i += 1;
     }
     true
 }
@@ -224,8 +188,8 @@ pub fn listed(sheet: &[u8], fields: &mut [u32]) -> bool
         return false;
     }
     match row_tests(sheet, fields) {
-        Verdict::Refused(_, _) => false,
-        Verdict::Passed => {
+        Err(_) => false,
+        Ok(()) => {
             let n = sheet.len() / ROW_BYTES;
             let end = FIELDS * n;
             if !modest_rows(&fields[..end], n) {

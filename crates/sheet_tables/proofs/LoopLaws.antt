@@ -1,7 +1,7 @@
 -- How rows end, and the returned width of the loop around a row: what a row's entry is by those of the rows beside it in the
 -- tree. The second follows the law of places: a row's entry is set by the one row that names it.
 use Prim.Native.Nat.{ℕ, zero, suc, ◌+◌, ◌-◌, ◌≤◌, ◌<◌}
-use mathlib.Core.Path.{◌≡◌, refl, sym, ap, subst, ◌∙◌}
+use mathlib.Core.Path.{◌≡◌, refl, sym, ap, ◌∙◌}
 use mathlib.Core.Logic.{◌≢◌}
 use mathlib.Core.Bool.{Bool, true, false, not, cond, ◌||◌, false≢true}
 use mathlib.Core.List.{List, [], ◌∷◌}
@@ -15,7 +15,7 @@ use Rattle.formula.specs.declared.Shape.{Shape}
 use Rattle.formula.specs.declared.Shape.TheVariants.{Identifier, Constant, Pair, Operator, Let, If, For, Iter}
 use Rattle.formula.specs.Sheet.{shape_at, named_in}
 use Rattle.formula.specs.Tree.{Exp, Body, ret, iter, let_b, if_b, exp_node, body_node, exp_of, body_of}
-use Rattle.formula.specs.Places.{Node, expression, body, bodies_in, is_in_body}
+use Rattle.formula.specs.Places.{Node, bodies_in, is_in_body}
 use Rattle.formula.specs.Tests.{occurrences}
 use Rattle.formula.specs.Count.{returns, iterates}
 use Rattle.formula.specs.TreeLaws.{AllBetween, Named}
@@ -23,7 +23,7 @@ use Rattle.formula.specs.PlaceLaws.{Sound}
 use Rattle.formula.proofs.PlaceLaws.{bodies-between, bodies-named, occurs-not, only-namer}
 use Rattle.sheet_tables.specs.Nodes.{node_at, Holds}
 use Rattle.sheet_tables.specs.Ready.{Ready}
-use Rattle.sheet_tables.specs.Ends.{arms_end, ends_of, ends_in, ends_by}
+use Rattle.sheet_tables.specs.Ends.{ends_of, ends_in, ends_by}
 use Rattle.sheet_tables.specs.Loops.{handed, fill, loops_down, loops_of}
 use Rattle.sheet_tables.proofs.NodeLaws.{node_by, Parts, node_at_lem, parts_at}
 

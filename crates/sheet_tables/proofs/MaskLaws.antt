@@ -1,13 +1,12 @@
 -- The mask of a row's free names from those of the rows that it names, and test 9 by masks.
-use Prim.Native.Nat.{ℕ, zero, suc, ◌+◌, ◌*◌, ◌-◌, ◌^◌, ◌≤◌, ◌<◌}
+use Prim.Native.Nat.{ℕ, ◌+◌, ◌-◌, ◌^◌, ◌≤◌, ◌<◌}
 use mathlib.Core.Path.{◌≡◌, refl, sym, ap, subst, ◌∙◌}
-use mathlib.Core.Bool.{Bool, true, false, not, cond, ◌&&◌, false≢true}
+use mathlib.Core.Bool.{Bool, true, false, cond, ◌&&◌, false≢true}
 use mathlib.Core.List.{List}
 use native.Mathlib.Omega.{arith}
 use lib.Dec.{leb, eqb}
-use lib.ListN.{length, get_or}
+use lib.ListN.{get_or}
 use lib.Bits.{bit_and, bit_or}
-use lib.Count.{ones}
 use borrow.Author.Tests.{leb-true}
 use Rattle.names.specs.Names.{Names, mask, one, union, without, range, trigger, size}
 use Rattle.names.proofs.Sets.{mask_one, mask-range, known-union, known-minus, known-count}
@@ -15,14 +14,14 @@ use Rattle.formula.specs.declared.Shape.{Shape}
 use Rattle.formula.specs.declared.Shape.TheVariants.{Identifier, Constant, Pair, Operator, Let, If, For, Iter}
 use Rattle.formula.specs.Sheet.{shape_at, shape_of, named_in, field}
 use Rattle.formula.specs.Tree.{Exp, Body, exp_node, body_node, exp_of, body_of}
-use Rattle.formula.specs.Places.{Node, expression, body, node_in, is_in_body}
+use Rattle.formula.specs.Places.{Node, expression, body, is_in_body}
 use Rattle.formula.specs.Free.{free_e, free_b, covers, bound_e, bound_b}
 use Rattle.formula.specs.Tests.{bound_node, bound_well, in_range, ranges_well, binds_well}
 use Rattle.formula.specs.TreeLaws.{AllBetween}
 use Rattle.formula.proofs.TreeLaws.{and-true}
 use Rattle.sheet_tables.specs.Nodes.{node_at, free_in, Holds}
 use Rattle.sheet_tables.specs.Ready.{Ready}
-use Rattle.sheet_tables.specs.Masks.{trigger_mask, range_mask, outside, plain_mask, is_returned, mask_by, missing, bound_by, Ranged}
+use Rattle.sheet_tables.specs.Masks.{trigger_mask, range_mask, outside, plain_mask, mask_by, missing, bound_by, Ranged}
 use Rattle.sheet_tables.proofs.NodeLaws.{node_by, Parts, node_at_lem, parts_at}
 
 trigger-mask : trigger_mask ≡ mask (one trigger)

@@ -1,21 +1,21 @@
 -- The node of a row from the nodes of the rows that it names: by its place a row's tree is an expression or a body, and so
 -- are, by the law of places, those of the rows that it names.
-use Prim.Native.Nat.{ℕ, zero, suc, ◌+◌, ◌-◌, ◌≤◌, ◌<◌}
+use Prim.Native.Nat.{ℕ, ◌+◌, ◌-◌, ◌≤◌, ◌<◌}
 use mathlib.Core.Path.{◌≡◌, refl, sym, ap, subst, ◌∙◌}
 use mathlib.Core.Bool.{Bool, true, false, not, ◌||◌, false≢true}
-use mathlib.Core.List.{List, [], ◌∷◌, map}
+use mathlib.Core.List.{List, map}
 use native.Mathlib.Omega.{arith}
-use lib.ListN.{length, get_or, set, take, length-set}
+use lib.ListN.{length, get_or, set, take}
 use lib.Seq.{get_or-set_same, get_or-set_other, get_or-take}
 use native.Mathlib.Decide.{ℕ_discrete}
 use Rattle.formula.specs.declared.Shape.{Shape}
 use Rattle.formula.specs.declared.Shape.TheVariants.{Identifier, Constant, Pair, Operator, Let, If, For, Iter}
 use Rattle.formula.specs.Sheet.{shape_at, named_in}
 use Rattle.formula.specs.Tree.{Exp, Body, exp_node, body_node, exp_of, body_of}
-use Rattle.formula.specs.Places.{Node, expression, body, node_in, is_in_body, places_of}
+use Rattle.formula.specs.Places.{Node, expression, body, node_in, is_in_body}
 use Rattle.formula.specs.Tests.{is_iter, placed_well}
 use Rattle.formula.proofs.TreeLaws.{exp-at, body_at}
-use Rattle.formula.specs.PlaceLaws.{Sound, field_places}
+use Rattle.formula.specs.PlaceLaws.{field_places}
 use Rattle.formula.proofs.PlaceLaws.{places-named, places-length}
 use Rattle.sheet_tables.specs.Nodes.{node_at, Holds}
 use Rattle.sheet_tables.specs.Ready.{Ready}

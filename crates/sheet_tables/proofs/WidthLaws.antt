@@ -1,17 +1,17 @@
 -- The widths of a row's node from those of the nodes of the rows that it names.
-use Prim.Native.Nat.{ℕ, zero, suc, ◌+◌, ◌-◌, ◌≤◌, ◌<◌}
+use Prim.Native.Nat.{ℕ, ◌+◌, ◌-◌, ◌≤◌, ◌<◌}
 use mathlib.Core.Path.{◌≡◌, refl, sym, ap, subst, ◌∙◌}
-use mathlib.Core.Bool.{Bool, true, false, not, cond, ◌&&◌}
+use mathlib.Core.Bool.{Bool, true, false, ◌&&◌}
 use mathlib.Core.List.{List}
 use native.Mathlib.Omega.{arith}
-use lib.Dec.{leb, eqb}
-use lib.ListN.{length, get_or}
+use lib.Dec.{leb}
+use lib.ListN.{get_or}
 use Rattle.formula.specs.declared.Shape.{Shape}
 use Rattle.formula.specs.declared.Shape.TheVariants.{Identifier, Constant, Pair, Operator, Let, If, For, Iter}
 use Rattle.formula.specs.Sheet.{shape_at, named_in}
 use Rattle.formula.specs.Tree.{Exp, Body, exp_node, body_node, exp_of, body_of}
-use Rattle.formula.specs.Places.{Node, expression, body, node_in, is_in_body}
-use Rattle.formula.specs.Widths.{width, returned, iterated, fitting_e, fitting_b, wide_e, wide_b}
+use Rattle.formula.specs.Places.{Node, is_in_body}
+use Rattle.formula.specs.Widths.{width, iterated, fitting_e, fitting_b, wide_e, wide_b}
 use Rattle.formula.specs.Tests.{wide_node, widths_well}
 use borrow.Author.Tests.{leb-true}
 use Rattle.formula.specs.TreeLaws.{AllBetween}

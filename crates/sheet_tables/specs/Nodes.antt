@@ -1,8 +1,7 @@
 -- What each row's table entries are: the widths, free names and ends of the row's node, which is an expression or a body by
 -- the row's place (document 01, "Widths", "Names free in a row", "The graph").
-use Rattle.std.specs.Prelude.{ℕ, ◌-◌, ◌≤◌, ◌≡◌, Bool, List, length, get_or}
+use Rattle.std.specs.Prelude.{ℕ, ◌-◌, ◌≤◌, ◌≡◌, Bool, List, get_or}
 use Rattle.names.specs.Names.{Names}
-use Rattle.formula.specs.Tree.{Exp, Body}
 use Rattle.formula.specs.Places.{Node, expression, body, node_in, is_in_body}
 use Rattle.formula.specs.Widths.{width, returned, iterated}
 use Rattle.formula.specs.Free.{free_e, free_b}

@@ -9,48 +9,41 @@ ghost use Rattle.sheet_tables.specs.Ready.{Ready};
 ghost use Rattle.sheet_tables.specs.Ends.{ends_in, ends_by, arms_end};
 
 use formula::Shape;
-use sheet_fields::shape::shape_at;
+use sheet_fields::shape::{entry, shape_at};
 
-// How a row ends (specs/Ends).
+// How a row ends (specs/Ends): a byte a row of the table, as the widths beside it have.
 const RETURNS: u8 = 1;
 
 pub const ITERATES: u8 = 2;
 
 const DOES_BOTH: u8 = 3;
 
-pub fn end_at(ends: &[u8], r: usize) -> u8
-    requires { (1 ≤ r) × (r ≤ length ends.now) }
-    ensures { result ≡ get_or ends.now (r - 1) 0 }
-{
-    ends[r - 1]
-}
-
 // An if whose arms end as u and v.
+#[tactic(auto, unfolding(crate::specs::Ends::arms_end))]
 fn arms_end(u: u8, v: u8) -> u8
     ensures { result ≡ arms_end u v }
 {
-    if ITERATES <= u {
-        return DOES_BOTH;
+    if ITERATES <= u || ITERATES <= v {
+        DOES_BOTH
+    } else {
+        RETURNS
     }
-    if ITERATES <= v {
-        return DOES_BOTH;
-    }
-    RETURNS
 }
 
 // How row r, of shape s, ends, by the ends of earlier rows.
+#[tactic(auto, unfolding(crate::specs::Ends::ends_by, formula::specs::Sheet::named_in))]
 fn ends_of(s: Shape, r: usize, ends: &[u8]) -> u8
     requires { (AllBetween r (named_in s)) × (r ≤ length ends.now + 1) }
     ensures { result ≡ ends_by (λ k. get_or ends.now (k - 1) 0) s }
 {
     match s {
-        Shape::Identifier(_) => RETURNS,
-        Shape::Constant(_, _) => RETURNS,
-        Shape::Pair(_, _) => RETURNS,
-        Shape::Operator(_, _) => RETURNS,
-        Shape::Let(_, _, _, d) => end_at(ends, d),
-        Shape::If(_, b, c) => arms_end(end_at(ends, b), end_at(ends, c)),
-        Shape::For(_, _, _, _) => RETURNS,
+        Shape::Identifier(_)
+        | Shape::Constant(_, _)
+        | Shape::Pair(_, _)
+        | Shape::Operator(_, _)
+        | Shape::For(_, _, _, _) => RETURNS,
+        Shape::Let(_, _, _, d) => entry(ends, d),
+        Shape::If(_, b, c) => arms_end(entry(ends, b), entry(ends, c)),
         Shape::Iter(_) => ITERATES,
     }
 }
@@ -60,10 +53,8 @@ pub fn find_ends(fields: &[u32], n: usize, ends: &mut [u8])
     requires { (Ready fields.now n (places_of fields.now n)) × (length ends.old ≡ n) }
     ensures { Holds 0 ends.new n (λ k. ends_in (node_at fields.now (places_of fields.now n) k)) }
 {
-    let mut i = 0;
-    while i < n {
+    for i in 0..n {
         let r = i + 1;
         ends[i] = ends_of(shape_at(fields, r), r, &ends[..i]);
-        i += 1;
     }
 }

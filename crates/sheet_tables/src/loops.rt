@@ -8,25 +8,27 @@ ghost use Rattle.sheet_tables.specs.Ready.{Ready};
 ghost use Rattle.sheet_tables.specs.Loops.{handed, fill, loops_of};
 
 use formula::Shape;
-use sheet_fields::shape::shape_at;
+use sheet_fields::shape::{entry, shape_at};
 use sheet_rows::places::{Bodies, bodies_of};
 
+#[tactic(auto, unfolding(crate::specs::Loops::handed, formula::specs::Sheet::named_in))]
 fn hand_on(s: Shape, r: usize, w: u8, returned: &[u8]) -> u8
     requires { (AllBetween r (named_in s)) × (r ≤ length returned.now) }
     ensures { result ≡ handed (λ k. get_or returned.now (k - 1) 0) w s }
 {
     match s {
-        Shape::Identifier(_) => w,
-        Shape::Constant(_, _) => w,
-        Shape::Pair(_, _) => w,
-        Shape::Operator(_, _) => w,
-        Shape::Let(_, _, _, _) => w,
-        Shape::If(_, _, _) => w,
-        Shape::For(_, _, _, d) => returned[d - 1],
-        Shape::Iter(_) => w,
+        Shape::Identifier(_)
+        | Shape::Constant(_, _)
+        | Shape::Pair(_, _)
+        | Shape::Operator(_, _)
+        | Shape::Let(_, _, _, _)
+        | Shape::If(_, _, _)
+        | Shape::Iter(_) => w,
+        Shape::For(_, _, _, d) => entry(returned, d),
     }
 }
 
+#[tactic(auto, unfolding(crate::specs::Loops::fill))]
 fn fill_one(loops: &mut [u8], r: usize, v: u8)
     requires { (1 ≤ r) × (r ≤ length loops.old) }
     ensures { loops.new ≡ fill (r ∷ []) v loops.old }
@@ -57,11 +59,9 @@ pub fn find_loops(fields: &[u32], n: usize, places: &[bool], returned: &[u8], lo
     requires { (Ready fields.now n places.now) × (length returned.now ≡ n) × (loops.old ≡ replicate n 0) }
     ensures { loops.new ≡ loops_of fields.now places.now (λ k. get_or returned.now (k - 1) 0) n }
 {
-    let mut r = n;
-    while 0 < r {
+    for r in (1..=n).rev() {
         let s = shape_at(fields, r);
         let v = hand_on(s, r, loops[r - 1], returned);
         fill_row(loops, s, r, places[r - 1], v);
-        r -= 1;
     }
 }

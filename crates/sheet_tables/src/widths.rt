@@ -1,16 +1,15 @@
 // Test 8 of document 01, "a width rule broken": the returned and the iterated width of each row, from the first row up.
-ghost use Rattle.std.specs.Prelude.{◌≡◌, Bool, true, false, not, ◌&&◌, ℕ, ◌+◌, ◌*◌, ◌-◌, ◌≤◌, ◌<◌, length, get_or, eqb};
+ghost use Rattle.std.specs.Prelude.{◌≡◌, Bool, true, false, not, ◌&&◌, ℕ, ◌+◌, ◌*◌, ◌-◌, ◌≤◌, ◌<◌, length, get_or, eqb, Ok};
 ghost use Rattle.value.specs.Operators.{operands};
 ghost use Rattle.formula.specs.Sheet.{named_in};
 ghost use Rattle.formula.specs.TreeLaws.{AllBetween};
-ghost use Rattle.formula.specs.declared.Check.TheVariants.{Passed};
 ghost use Rattle.formula.specs.Tests.{lowest, widths_well};
 ghost use Rattle.formula.specs.Widths.{either, agree as agreeing};
 ghost use Rattle.sheet_tables.specs.Nodes.{node_at, returned_in, iterated_in, Holds};
 ghost use Rattle.sheet_tables.specs.Ready.{Ready};
 ghost use Rattle.sheet_tables.specs.Widths.{widths_by, well_by};
 
-use formula::{Check, Shape};
+use formula::Shape;
 use sheet_fields::shape::{shape_at, width_at};
 
 // The widths of a row, 0 for one that it does not have, and whether its kind's rule holds.
@@ -25,6 +24,7 @@ pub struct Widths {
 const WIDEST: usize = 16;
 
 // How many values an operator takes.
+#[tactic(auto, unfolding(value::specs::Operators::operands))]
 fn operand_width(code: u32) -> usize
     ensures { result ≡ operands code }
 {
@@ -45,13 +45,7 @@ fn of_arms(u: usize, v: usize) -> usize
 fn agree(u: usize, v: usize) -> bool
     ensures { result ≡ agreeing u v }
 {
-    if u == 0 {
-        return true;
-    }
-    if v == 0 {
-        return true;
-    }
-    u == v
+    u == 0 || v == 0 || u == v
 }
 
 // A body if with test u; v and w are the arms' iterated widths, x and y their returned ones.
@@ -61,20 +55,8 @@ fn if_widths(u: usize, v: usize, w: usize, x: usize, y: usize) -> Widths
     Widths {
         returned: of_arms(x, y),
         iterated: of_arms(v, w),
-        fits: three(u == 1, agree(v, w), agree(x, y)),
+        fits: u == 1 && agree(v, w) && agree(x, y),
     }
-}
-
-fn three(a: bool, b: bool, c: bool) -> bool
-    ensures { result ≡ (a && b && c) }
-{
-    if !a {
-        return false;
-    }
-    if !b {
-        return false;
-    }
-    c
 }
 
 // An expression of this width, whose rule holds or not.
@@ -92,17 +74,17 @@ fn expression(width: usize, rule: bool) -> Widths
 fn for_widths(k: usize, u: usize, v: usize, x: usize) -> Widths
     ensures { result ≡ record { returned = x; iterated = 0; fits = (eqb u k && eqb v k && not (eqb x 0)) } }
 {
-    expression(x, three(u == k, v == k, x != 0))
+    expression(x, u == k && v == k && x != 0)
 }
 
 // The widths of row r, of shape s, from those of earlier rows.
+#[tactic(auto, unfolding(crate::specs::Widths::widths_by, formula::specs::Sheet::named_in))]
 pub fn widths_of(s: Shape, r: usize, in_body: bool, returned: &[u8], iterated: &[u8]) -> Widths
     requires { (AllBetween r (named_in s)) × (r ≤ length returned.now + 1) × (r ≤ length iterated.now + 1) }
     ensures { result ≡ widths_by in_body (λ k. get_or returned.now (k - 1) 0) (λ k. get_or iterated.now (k - 1) 0) s }
 {
     match s {
-        Shape::Identifier(_) => expression(1, true),
-        Shape::Constant(_, _) => expression(1, true),
+        Shape::Identifier(_) | Shape::Constant(_, _) => expression(1, true),
         Shape::Pair(a, b) => expression(width_at(returned, a) + width_at(returned, b), true),
         Shape::Operator(k, b) => expression(1, width_at(returned, b) == operand_width(k)),
         Shape::Let(_, b, c, d) => Widths {
@@ -117,7 +99,7 @@ pub fn widths_of(s: Shape, r: usize, in_body: bool, returned: &[u8], iterated: &
             if in_body {
                 if_widths(u, width_at(iterated, b), width_at(iterated, c), x, y)
             } else {
-                expression(x, three(u == 1, x == y, true))
+                expression(x, u == 1 && x == y)
             }
         }
         Shape::For(_, b, c, d) => for_widths(
@@ -138,13 +120,7 @@ pub fn widths_of(s: Shape, r: usize, in_body: bool, returned: &[u8], iterated: &
 pub fn widths_well(w: Widths) -> bool
     ensures { result ≡ well_by w }
 {
-    if WIDEST < w.iterated {
-        return false;
-    }
-    if WIDEST < w.returned {
-        return false;
-    }
-    w.fits
+    w.iterated <= WIDEST && w.returned <= WIDEST && w.fits
 }
 
 // Test 8. The rows before the first fault have their widths in the tables.
@@ -154,13 +130,12 @@ pub fn test_widths(
     places: &[bool],
     returned: &mut [u8],
     iterated: &mut [u8],
-) -> Check
+) -> Result<(), usize>
     requires { (Ready fields.now n places.now) × (length returned.old ≡ n) × (length iterated.old ≡ n) }
     ensures { (result ≡ lowest n (widths_well fields.now places.now))
-        × (result ≡ Passed → (Holds 0 returned.new n (λ k. returned_in (node_at fields.now places.now k))) × (Holds 0 iterated.new n (λ k. iterated_in (node_at fields.now places.now k)))) }
+        × (result ≡ Ok tt → (Holds 0 returned.new n (λ k. returned_in (node_at fields.now places.now k))) × (Holds 0 iterated.new n (λ k. iterated_in (node_at fields.now places.now k)))) }
 {
-    let mut i = 0;
-    while i < n {
+    for i in 0..n {
         let r = i + 1;
         let w = widths_of(
             shape_at(fields, r),
@@ -170,11 +145,10 @@ pub fn test_widths(
             &iterated[..i],
         );
         if !widths_well(w) {
-            return Check::Fault(r);
+            return Err(r);
         }
         returned[i] = w.returned as u8;
         iterated[i] = w.iterated as u8;
-        i += 1;
     }
-    Check::Passed
+    Ok(())
 }

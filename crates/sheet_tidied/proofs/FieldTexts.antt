@@ -1,11 +1,10 @@
 -- Laws of specs/FieldTexts.antt, and what only they need.
-use Rattle.std.specs.Prelude.{ℕ, zero, suc, ◌+◌, ◌*◌, ◌-◌, ◌/◌, ◌%◌, ◌≤◌, ◌≡◌, ◌⊎◌, Bool, true, false, cond, ◌&&◌, List, [], ◌∷◌, ◌++◌, eqb, leb, length, get_or, take, drop, replicate}
+use Rattle.std.specs.Prelude.{ℕ, zero, suc, ◌+◌, ◌*◌, ◌-◌, ◌/◌, ◌%◌, ◌≤◌, ◌≡◌, ◌⊎◌, Bool, true, false, cond, ◌&&◌, List, [], ◌∷◌, ◌++◌, eqb, leb, length, get_or, take, drop, replicate, Some, None}
 use Rattle.std.proofs.Math.Path.{refl}
 use Rattle.std.proofs.Common.{sym, ap, ◌∙◌, inl, inr, length-drop, take-append-drop, drop_of_length-le, take-suc, length-take-le, drop-drop, drop-cons, eqb-true, leb-true, arith}
 use Rattle.std.proofs.lemmas.Bool.{false≢true, eqb-false}
 use Rattle.std.proofs.Math.Seq.{take-length}
-use Rattle.formula.specs.declared.Field.{Field}
-use Rattle.formula.specs.declared.Field.TheVariants.{Number, Malformed}
+use Rattle.formula.specs.Results.{Field}
 use Rattle.formula.specs.Sheet.{is_digit, digits_of, zero_of, field_of, field_text, number_in}
 use Rattle.formula.specs.SheetLaws.{line_fields}
 use Rattle.formula.specs.Tests.{well_formed}
@@ -15,30 +14,30 @@ use Rattle.text.proofs.PrintLaws.{led-spaces, shown-last, shown-more}
 use Rattle.sheet_tidied.specs.Text.{row_text}
 use Rattle.sheet_tidied.specs.FieldTexts.{LastDigit, Ending}
 
-no_number : (v : ℕ) → Malformed ≡ Number v → ⊥
+no_number : (v : ℕ) → None ≡ Some v → ⊥
 no_number v h = let z : ◌≡◌ {A = ℕ} 0 1 = cc h in omega arith
 
 -- ---- the last character of a field
 digit-range : (b : ℕ) → is_digit b ≡ true → (48 ≤ b) × (b ≤ 57)
 digit-range b h = let e = and-true (leb 48 b) (leb b 57) h in (leb-true 48 b e.0, leb-true b 57 e.1)
 
-last-digit : (s : List ℕ) (w b v : ℕ) → digits_of w (s ++ (b ∷ [])) ≡ Number v → LastDigit w s b v
+last-digit : (s : List ℕ) (w b v : ℕ) → digits_of w (s ++ (b ∷ [])) ≡ Some v → LastDigit w s b v
 unfolding digits_of
 last-digit [] w b v h = go (is_digit b) refl h
   where
-    go : (x : Bool) → is_digit b ≡ x → cond x (Number (w * 10 + (b - 48))) Malformed ≡ Number v → LastDigit w [] b v
+    go : (x : Bool) → is_digit b ≡ x → cond x (Some (w * 10 + (b - 48))) None ≡ Some v → LastDigit w [] b v
     go true e i = record { before = w; front = refl; grown = omega arith; digit = digit-range b e; value = sym (cc i) }
     go false e i = absurd (no_number v i)
 last-digit (c ∷ s) w b v h = go (is_digit c) refl h (last-digit s (w * 10 + (c - 48)) b v)
   where
-    go : (x : Bool) → is_digit c ≡ x → cond x (digits_of (w * 10 + (c - 48)) (s ++ (b ∷ []))) Malformed ≡ Number v
-        → (digits_of (w * 10 + (c - 48)) (s ++ (b ∷ [])) ≡ Number v → LastDigit (w * 10 + (c - 48)) s b v) → LastDigit w (c ∷ s) b v
+    go : (x : Bool) → is_digit c ≡ x → cond x (digits_of (w * 10 + (c - 48)) (s ++ (b ∷ []))) None ≡ Some v
+        → (digits_of (w * 10 + (c - 48)) (s ++ (b ∷ [])) ≡ Some v → LastDigit (w * 10 + (c - 48)) s b v) → LastDigit w (c ∷ s) b v
     go true e i ih =
         let f = ih i in
         record { before = f.before; front = rw e f.front; grown = omega (arith, f.grown); digit = f.digit; value = f.value }
     go false e i ih = absurd (no_number v i)
 
-zero-alone : (s : List ℕ) (b v : ℕ) → zero_of (s ++ (b ∷ [])) ≡ Number v → ⊥
+zero-alone : (s : List ℕ) (b v : ℕ) → zero_of (s ++ (b ∷ [])) ≡ Some v → ⊥
 unfolding zero_of
 zero-alone [] b v h = no_number v h
 zero-alone (c ∷ s) b v h = no_number v h
@@ -47,17 +46,17 @@ space-before : (c : ℕ) (s : List ℕ) (b v : ℕ) → eqb c 32 ≡ true → En
 unfolding field_of
 space-before c s b v d h = record { digit = h.digit; front = go h.front }
   where
-    go : ((s ≡ replicate (length s) 32) × (v ≡ b - 48)) ⊎ ((n : ℕ) × (field_of s ≡ Number n) × (1 ≤ n) × (v ≡ n * 10 + (b - 48)))
-        → ((c ∷ s ≡ 32 ∷ replicate (length s) 32) × (v ≡ b - 48)) ⊎ ((n : ℕ) × (field_of (c ∷ s) ≡ Number n) × (1 ≤ n) × (v ≡ n * 10 + (b - 48)))
+    go : ((s ≡ replicate (length s) 32) × (v ≡ b - 48)) ⊎ ((n : ℕ) × (field_of s ≡ Some n) × (1 ≤ n) × (v ≡ n * 10 + (b - 48)))
+        → ((c ∷ s ≡ 32 ∷ replicate (length s) 32) × (v ≡ b - 48)) ⊎ ((n : ℕ) × (field_of (c ∷ s) ≡ Some n) × (1 ≤ n) × (v ≡ n * 10 + (b - 48)))
     go (inl e) = inl (cc (eqb-true c 32 d, e.0), e.1)
     go (inr e) = inr (e.0, rw d e.1, e.2, e.3)
 
-ending : (s : List ℕ) (b v : ℕ) → field_of (s ++ (b ∷ [])) ≡ Number v → Ending s b v
+ending : (s : List ℕ) (b v : ℕ) → field_of (s ++ (b ∷ [])) ≡ Some v → Ending s b v
 unfolding field_of zero_of digits_of
 ending [] b v h = go (eqb b 32) (eqb b 48) (is_digit b) refl refl refl h
   where
     go : (x y z : Bool) → eqb b 32 ≡ x → eqb b 48 ≡ y → is_digit b ≡ z
-        → cond x Malformed (cond y (Number 0) (cond z (Number (b - 48)) Malformed)) ≡ Number v → Ending [] b v
+        → cond x None (cond y (Some 0) (cond z (Some (b - 48)) None)) ≡ Some v → Ending [] b v
     go true y z d e f i = absurd (no_number v i)
     go false true z d e f i =
         let k : b ≡ 48 = eqb-true b 48 e in
@@ -68,8 +67,8 @@ ending [] b v h = go (eqb b 32) (eqb b 48) (is_digit b) refl refl refl h
 ending (c ∷ s) b v h = go (eqb c 32) (eqb c 48) (is_digit c) refl refl refl h (ending s b v)
   where
     go : (x y z : Bool) → eqb c 32 ≡ x → eqb c 48 ≡ y → is_digit c ≡ z
-        → cond x (field_of (s ++ (b ∷ []))) (cond y (zero_of (s ++ (b ∷ []))) (cond z (digits_of (c - 48) (s ++ (b ∷ []))) Malformed)) ≡ Number v
-        → (field_of (s ++ (b ∷ [])) ≡ Number v → Ending s b v) → Ending (c ∷ s) b v
+        → cond x (field_of (s ++ (b ∷ []))) (cond y (zero_of (s ++ (b ∷ []))) (cond z (digits_of (c - 48) (s ++ (b ∷ []))) None)) ≡ Some v
+        → (field_of (s ++ (b ∷ [])) ≡ Some v → Ending s b v) → Ending (c ∷ s) b v
     go true y z d e f i ih = space-before c s b v d (ih i)
     go false true z d e f i ih = absurd (zero-alone s b v i)
     go false false true d e f i ih =
@@ -80,7 +79,7 @@ ending (c ∷ s) b v h = go (eqb c 32) (eqb c 48) (is_digit c) refl refl refl h 
 
 -- ---- a field and a row
 -- A well-formed field of w characters is its number right-justified in them.
-printed : (w : ℕ) (s : List ℕ) (v : ℕ) → length s ≡ w → field_of s ≡ Number v → shown 32 w v ≡ s
+printed : (w : ℕ) (s : List ℕ) (v : ℕ) → length s ≡ w → field_of s ≡ Some v → shown 32 w v ≡ s
 unfolding field_of
 printed zero [] v l h = absurd (no_number v h)
 printed zero (c ∷ s) v l h = absurd (omega arith)
@@ -98,10 +97,10 @@ printed (suc w) s v l h = go (ending front last v (ap field_of (sym whole) ∙ h
     size : length front ≡ w
     size = length-take-le w s (omega arith)
 
-    go : Ending front last v → ((n : ℕ) → length front ≡ w → field_of front ≡ Number n → shown 32 w n ≡ front) → shown 32 (suc w) v ≡ s
+    go : Ending front last v → ((n : ℕ) → length front ≡ w → field_of front ≡ Some n → shown 32 w n ≡ front) → shown 32 (suc w) v ≡ s
     go e ih = by e.front
       where
-        by : ((front ≡ replicate (length front) 32) × (v ≡ last - 48)) ⊎ ((n : ℕ) × (field_of front ≡ Number n) × (1 ≤ n) × (v ≡ n * 10 + (last - 48))) → shown 32 (suc w) v ≡ s
+        by : ((front ≡ replicate (length front) 32) × (v ≡ last - 48)) ⊎ ((n : ℕ) × (field_of front ≡ Some n) × (1 ≤ n) × (v ≡ n * 10 + (last - 48))) → shown 32 (suc w) v ≡ s
         by (inl f) =
             let d : 48 + v % 10 ≡ last = omega (arith, e.digit.0, e.digit.1) in
             shown-last 32 w v (omega (arith, e.digit.0, e.digit.1))
@@ -117,7 +116,7 @@ printed (suc w) s v l h = go (ending front last v (ap field_of (sym whole) ∙ h
             ∙ sym whole
 
 -- Six characters that are well formed are their number's.
-pub field-printed : (s : List ℕ) (v : ℕ) → length s ≡ 6 → field_of s ≡ Number v → number_field v ≡ s
+pub field-printed : (s : List ℕ) (v : ℕ) → length s ≡ 6 → field_of s ≡ Some v → number_field v ≡ s
 unfolding number_field
 field-printed s v l h = printed 6 s v l h
 
@@ -130,9 +129,9 @@ all-five a b c d e h =
     let w = and-true a b z.0 in
     (w.0, w.1, z.1, y.1, x.1)
 
-number_of : (f : Field) → well_formed f ≡ true → f ≡ Number (number_in f)
-number_of (Number n) h = refl
-number_of Malformed h = absurd (false≢true h)
+number_of : (f : Field) → well_formed f ≡ true → f ≡ Some (number_in f)
+number_of (Some n) h = refl
+number_of None h = absurd (false≢true h)
 
 module _ (l : List ℕ) (size : length l ≡ 31) where
   six : (a : ℕ) → a + 6 ≤ 31 → length (take 6 (drop a l)) ≡ 6

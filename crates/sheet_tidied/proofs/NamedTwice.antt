@@ -1,7 +1,7 @@
 -- Document 02, Job 8: "the new sheet gets 6 exactly when two fields of kept rows name the same row". Two fields of one row count as two.
 -- The kept rows are the reachable ones (Rowwise `kept-iff`).
 use Prim.Native.Nat.{ℕ, zero, suc, ◌+◌, ◌-◌, ◌≤◌, ◌<◌}
-use Rattle.std.specs.Prelude.{◌≡◌, ◌↔◌, Bool}
+use Rattle.std.specs.Prelude.{◌≡◌, ◌↔◌, Bool, Ok, Err}
 use Rattle.std.proofs.Math.Path.{refl, ap}
 use Rattle.std.proofs.Common.{sym, ◌∙◌}
 use Rattle.std.proofs.Math.Bool.{true, false, cond}
@@ -10,11 +10,8 @@ use borrow.Author.Tests.{eqb-true, eqb-false}
 use native.Mathlib.Omega.{arith}
 use Rattle.std.proofs.Math.Decide.{ℕ_discrete, dec_lt}
 use Rattle.std.proofs.Math.Numerals.{add-one}
-use Rattle.formula.specs.declared.Check.{Check}
-use Rattle.formula.specs.declared.Check.TheVariants.{Passed as well, Fault}
+use Rattle.formula.specs.Results.{Check, refused}
 use Rattle.formula.specs.declared.Refusal.TheVariants.{Named}
-use Rattle.formula.specs.declared.Verdict.TheVariants.{Passed}
-use Rattle.formula.specs.declared.Reading.TheVariants.{Rejected}
 use Rattle.formula.specs.Sheet.{row_count, fields_of, shape_at, named_in}
 use Rattle.formula.specs.Tests.{occurrences, all_named, named_once, reading_of}
 use Rattle.formula.proofs.TestLaws.{passed-each, lowest-fault}
@@ -149,7 +146,7 @@ module _ (s : List ℕ) (ok : Rowwise s) where
       go (yes e) = absurd (omega (arith, ap f e))
       go (no e) = omega arith
 
-  fault-twice : (row : ℕ) → sixth_of (tidied s) ≡ Fault row → NamedTwice s
+  fault-twice : (row : ℕ) → sixth_of (tidied s) ≡ Err row → NamedTwice s
   unfolding sixth_of
   fault-twice row e =
       let c = lowest-fault (row_count (tidied s) - 1) (λ r. named_once (all_named (fields_of (tidied s)) (row_count (tidied s))) r) row e in
@@ -163,13 +160,13 @@ module _ (s : List ℕ) (ok : Rowwise s) where
       more : (j : ℕ) → 1 ≤ j → (j ≡ 1 → ⊥) → 2 ≤ j
       more j h i = omega arith
 
-  twice-fault : NamedTwice s → (row : ℕ) × (sixth_of (tidied s) ≡ Fault row)
+  twice-fault : NamedTwice s → (row : ℕ) × (sixth_of (tidied s) ≡ Err row)
   unfolding sixth_of
   twice-fault (x, h) = go (sixth_of (tidied s)) refl
     where
-      go : (c : Check) → sixth_of (tidied s) ≡ c → (row : ℕ) × (c ≡ Fault row)
-      go (Fault row) e = (row, refl)
-      go well e =
+      go : (c : Check) → sixth_of (tidied s) ≡ c → (row : ℕ) × (c ≡ Err row)
+      go (Err row) e = (row, refl)
+      go (Ok _) e =
           let i = name-row x (omega arith) in
           let m = number-less k x n i.1 (last-kept t n (naming s ok) ok.some) in
           let one = passed-each (row_count (tidied s) - 1) (λ r. named_once (all_named (fields_of (tidied s)) (row_count (tidied s))) r) e (f x) (number-first k x i.0 i.2) (omega (arith, m, new-count s ok)) in
@@ -177,7 +174,7 @@ module _ (s : List ℕ) (ok : Rowwise s) where
           absurd (omega (arith, same, eqb-true (occurrences (f x) (all_named (fields_of (tidied s)) (row_count (tidied s)))) 1 one))
 
 -- "the new sheet gets 6 exactly when two fields of kept rows name the same row", whatever the kinds line
-pub tidied-named : (s line : List ℕ) → row_verdict s ≡ Passed → ((row : ℕ) × (reading_of (tidied s) line ≡ Rejected Named row)) ↔ NamedTwice s
+pub tidied-named : (s line : List ℕ) → row_verdict s ≡ Ok tt → ((row : ℕ) × (reading_of (tidied s) line ≡ refused Named row)) ↔ NamedTwice s
 tidied-named s line h =
     let ok = passes-rowwise s h in
     let reading = sixth-reading (tidied s) line (tidied-passes s h) in

@@ -1,8 +1,7 @@
 -- Document 02, Job 8: "renumbers the rest in their old order". The reachable rows are the new sheet's rows, in the same order, each with new numbers for
 -- the rows that it names; this fixes the new sheet, since no other numbers rise and are all of 1 to its last. Assumes that tests 1 to 5 pass.
-use Rattle.std.specs.Prelude.{ℕ, ◌≤◌, ◌<◌, ◌≡◌, true, List}
+use Rattle.std.specs.Prelude.{ℕ, ◌≤◌, ◌<◌, ◌≡◌, true, List, Ok}
 use Rattle.std.proofs.Common.{arith}
-use Rattle.formula.specs.declared.Verdict.TheVariants.{Passed}
 use Rattle.formula.specs.Sheet.{row_count, fields_of, shape_at}
 use Rattle.sheet_tidied.specs.Tidy.{is_kept, new_number, tidied}
 use Rattle.sheet_read.specs.Reading.{row_verdict}
@@ -32,7 +31,7 @@ module _ (s : List ℕ) where
     -- and there it is the same row, but for the numbers of the rows that it names.
     pub same : (r : ℕ) → Reached r → shape_at (fields_of (tidied s)) (number_in r) ≡ renumbered number_in (shape_at (fields_of s) r)
 
-  module _ (h : row_verdict s ≡ Passed) where
+  module _ (h : row_verdict s ≡ Ok tt) where
     abbrev kept : (r : ℕ) → Reached r → is_kept (kept_in s) r ≡ true
     kept r w = let ok = passes-rowwise s h in reachable-kept (fields_of s) (row_count s) (naming s ok) ok.some r w
 

@@ -1,5 +1,5 @@
 -- Laws of specs/Rowwise.antt, and what only they need.
-use Rattle.std.specs.Prelude.{ℕ, ◌*◌, ◌%◌, ◌≤◌, ◌≡◌, ◌↔◌, not, ◌&&◌, List}
+use Rattle.std.specs.Prelude.{ℕ, ◌*◌, ◌%◌, ◌≤◌, ◌≡◌, ◌↔◌, not, ◌&&◌, List, Ok, Err}
 use Rattle.std.proofs.Math.Path.{refl, ap}
 use Rattle.std.proofs.Math.Bool.{true, false}
 use Rattle.std.proofs.lemmas.Bool.{false≢true}
@@ -7,9 +7,7 @@ use Rattle.std.proofs.Math.Dec.{eqb}
 use Rattle.std.proofs.Math.ListN.{length}
 use borrow.Author.Tests.{leb-true, le-leb, eqb-true, eqb-false, eq-eqb, ne_eqb, not-true}
 use native.Mathlib.Omega.{arith}
-use Rattle.formula.specs.declared.Check.{Check}
-use Rattle.formula.specs.declared.Check.TheVariants.{Passed as well, Fault}
-use Rattle.formula.specs.declared.Verdict.TheVariants.{Passed}
+use Rattle.formula.specs.Results.{Check}
 use Rattle.formula.specs.Sheet.{row_count, lines_of, fields_of, shape_at, named_in}
 use Rattle.formula.specs.Tests.{ended_at, lowest, whole, is-passed, laid_out, few_rows, fields_well, ranges_well, names_well, row_tests, sheet_of}
 use Rattle.formula.proofs.TestLaws.{passed-each, each-passed, whole-true}
@@ -23,9 +21,9 @@ use Rattle.sheet_tidied.specs.Reach.{Reachable}
 use Rattle.sheet_tidied.proofs.KeptLaws.{kept-reach}
 use Rattle.sheet_tidied.specs.Rowwise.{Rowwise}
 
-is-well : (c : Check) → is-passed c ≡ true → c ≡ well
-is-well well h = refl
-is-well (Fault r) h = absurd (false≢true h)
+is-well : (c : Check) → is-passed c ≡ true → c ≡ Ok tt
+is-well (Ok _) h = refl
+is-well (Err r) h = absurd (false≢true h)
 
 module _ (s : List ℕ) where
   -- Test 1: whole rows, at least one, each with its line feed.
@@ -69,11 +67,11 @@ module _ (s : List ℕ) where
       also each-passed (row_count s) (names_well (fields_of s)) h.names
       also tt
 
-  pub passes-rowwise : row_verdict s ≡ Passed → Rowwise s
+  pub passes-rowwise : row_verdict s ≡ Ok tt → Rowwise s
   unfolding row_verdict
   passes-rowwise h = each-rowwise ((all_pass (sheet_of s) row_tests).0 h)
 
-  pub rowwise-passes : Rowwise s → row_verdict s ≡ Passed
+  pub rowwise-passes : Rowwise s → row_verdict s ≡ Ok tt
   unfolding row_verdict
   rowwise-passes h = (all_pass (sheet_of s) row_tests).1 (rowwise-each h)
 
@@ -83,6 +81,6 @@ module _ (s : List ℕ) where
   naming h = record { names = λ r a b. all-between r (named_in (shape_at (fields_of s) r)) (h.names r a b) }
 
 -- "drops every row not reachable from the last": a row is kept if and only if it is reachable from the last.
-pub kept-iff : (s : List ℕ) → row_verdict s ≡ Passed → (r : ℕ) → 1 ≤ r → r ≤ row_count s
+pub kept-iff : (s : List ℕ) → row_verdict s ≡ Ok tt → (r : ℕ) → 1 ≤ r → r ≤ row_count s
     → (is_kept (kept_of (fields_of s) (row_count s)) r ≡ true) ↔ Reachable (fields_of s) (row_count s) r
 kept-iff s h r l u = let ok = passes-rowwise s h in kept-reach (fields_of s) (row_count s) (naming s ok) ok.some r l

@@ -1,11 +1,10 @@
 -- The tidied sheet has the same formula, which document 02 does not ask for: a club that tidies keeps its verdicts. The way there: every kept row, read
 -- in an expression place or in a body place, is the same tree under its new number.
-use Rattle.std.specs.Prelude.{ℕ, zero, suc, ◌≤◌, ◌<◌, ◌≡◌, true, List}
+use Rattle.std.specs.Prelude.{ℕ, zero, suc, ◌≤◌, ◌<◌, ◌≡◌, true, List, Ok}
 use Rattle.std.proofs.Math.Path.{refl, ap}
 use Rattle.std.proofs.Common.{sym, ◌∙◌, inl, inr, arith}
 use Rattle.formula.specs.declared.Shape.{Shape}
 use Rattle.formula.specs.declared.Shape.TheVariants.{Identifier, Constant, Pair, Operator, Let, If, For, Iter}
-use Rattle.formula.specs.declared.Verdict.TheVariants.{Passed}
 use Rattle.formula.specs.Sheet.{row_count, fields_of, shape_at, named_in}
 use Rattle.formula.specs.Tree.{Exp, Body, ret, exp_node, body_node, exp_of, body_of, formula_of}
 use Rattle.formula.specs.TreeLaws.{Named}
@@ -89,7 +88,7 @@ module _ (s : List ℕ) (ok : Rowwise s) where
           ih x (omega (arith, i.1)) i.0 (omega (arith, i.1)) (kept-names t (row_count s) old ok.some r l h k x a)
 
 -- The new sheet's formula is the sheet's.
-pub tidied-formula : (s : List ℕ) → row_verdict s ≡ Passed → formula_of (tidied s) ≡ formula_of s
+pub tidied-formula : (s : List ℕ) → row_verdict s ≡ Ok tt → formula_of (tidied s) ≡ formula_of s
 unfolding formula_of
 tidied-formula s h =
     let ok = passes-rowwise s h in

@@ -1,7 +1,7 @@
 -- A sheet of which every row is reachable from the last is tidied to itself, byte for byte. So tidying twice changes nothing more (document 02, Job
 -- 8), and a sheet that passes tests 1 to 6, as every accepted one, comes back as it is.
 use Prim.Native.Nat.{ℕ, zero, suc, ◌+◌, ◌*◌, ◌-◌, ◌≤◌, ◌<◌}
-use Rattle.std.specs.Prelude.{◌≡◌, Bool, true, drop}
+use Rattle.std.specs.Prelude.{◌≡◌, Bool, true, drop, Ok}
 use Rattle.std.proofs.Math.Path.{refl, sym, ap}
 use Rattle.std.proofs.Common.{subst, ◌∙◌, inl, inr, length-drop, get_or-take, get_or-append-add, add-one}
 use Rattle.std.proofs.Math.Bool.{cond}
@@ -10,9 +10,6 @@ use Rattle.std.proofs.Math.ListN.{length, get_or, take}
 use Rattle.std.proofs.Math.Seq.{take-add, take_all, length-take-le}
 use borrow.Author.Tests.{eqb-true}
 use native.Mathlib.Omega.{arith}
-use Rattle.formula.specs.declared.Check.TheVariants.{Passed as well}
-use Rattle.formula.specs.declared.Verdict.TheVariants.{Passed}
-use Rattle.formula.specs.declared.Reading.TheVariants.{Accepted}
 use Rattle.formula.specs.declared.Figures.{Figures}
 use Rattle.formula.specs.Sheet.{row_count, lines_of, fields_of, field, shape_at, named_in}
 use Rattle.formula.proofs.SheetLaws.{line-at, fields-length, fields-more}
@@ -127,16 +124,16 @@ module _ (s : List ℕ) (ok : Rowwise s) where
       (moved w.row (kept-reachable (fields_of s) (row_count s) (naming s ok) ok.some w.row w.low w.kept))
 
 -- "Tidying twice changes nothing more."
-pub tidied-twice : (s : List ℕ) → row_verdict s ≡ Passed → tidied (tidied s) ≡ tidied s
+pub tidied-twice : (s : List ℕ) → row_verdict s ≡ Ok tt → tidied (tidied s) ≡ tidied s
 tidied-twice s h = let ok = passes-rowwise s h in reachable-stays (tidied s) (tidied-rowwise s ok) (new-reachable s ok)
 
 -- ---- sheets without dead rows and doubled names
 -- A sheet that passes tests 1 to 6 comes back byte for byte.
-pub named-once-stays : (s : List ℕ) → row_verdict s ≡ Passed → sixth_of s ≡ well → tidied s ≡ s
+pub named-once-stays : (s : List ℕ) → row_verdict s ≡ Ok tt → sixth_of s ≡ Ok tt → tidied s ≡ s
 named-once-stays s h e =
     let ok = passes-rowwise s h in
     reachable-stays s ok (all-reachable (fields_of s) (row_count s) (sixth-sound s ok e))
 
 -- So does every accepted one.
-pub accepted-stays : (s line : List ℕ) (g : Figures) → reading_of s line ≡ Accepted g → tidied s ≡ s
+pub accepted-stays : (s line : List ℕ) (g : Figures) → reading_of s line ≡ Ok g → tidied s ≡ s
 accepted-stays s line g h = named-once-stays s (accepted-five s line g h) (accepted-sixth s line g h)

@@ -1,13 +1,12 @@
 -- Laws of specs/TextLaws.antt, and what only they need.
 use Prim.Native.Nat.{ℕ, zero, suc, ◌+◌, ◌*◌, ◌-◌, ◌≤◌, ◌<◌}
-use Rattle.std.specs.Prelude.{◌≡◌, ◌&&◌, length, get_or, take, drop}
+use Rattle.std.specs.Prelude.{◌≡◌, ◌&&◌, length, get_or, take, drop, Some}
 use Rattle.std.proofs.Math.Path.{refl, ap}
 use Rattle.std.proofs.Common.{sym, ◌∙◌, length-append, take_at, drop_at, get_or-append-add, arith}
 use Rattle.std.proofs.Math.Bool.{true}
 use mathlib.Core.List.{List, [], ◌∷◌, ◌++◌, map, flatten, append_assoc, append-nil}
 use Rattle.std.proofs.Math.ListN.{get_or-append}
 use Rattle.std.proofs.Math.Seq.{drop-append-add}
-use Rattle.formula.specs.declared.Field.TheVariants.{Number}
 use Rattle.formula.specs.Sheet.{row_count, lines_in, lines_of, field_text, field_of, fields_in, fields_of, field, shape_at}
 use Rattle.formula.specs.Tests.{line_at, ended_at, well_formed, fields_well, ranges_well}
 use Rattle.text.specs.Printed.{number_field}
@@ -75,7 +74,7 @@ feed-part (x ∷ r) =
     rw (e, get_or-append-add (number_field x) (row_text r) (6 * length r) 0) (feed-part r)
 
 -- Each of the five is read as its number.
-read-part : (r : List ℕ) (j : ℕ) → j < length r → get_or r j 0 ≤ 999999 → field_of (field_text (row_text r) j) ≡ Number (get_or r j 0)
+read-part : (r : List ℕ) (j : ℕ) → j < length r → get_or r j 0 ≤ 999999 → field_of (field_text (row_text r) j) ≡ Some (get_or r j 0)
 read-part r j h k = ap field_of (field-part r j h) ∙ number-reads-back (get_or r j 0) k
 
 fields-text : (rs : List (List ℕ)) → Rows rs → fields_in (map row_text rs) ≡ flatten rs

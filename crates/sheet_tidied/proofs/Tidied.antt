@@ -1,6 +1,6 @@
 -- Laws of specs/Tidied.antt, and what only they need.
 use Prim.Native.Nat.{ℕ, zero, suc, ◌*◌, ◌-◌, ◌≤◌}
-use Rattle.std.specs.Prelude.{◌≡◌, Bool, cond, get_or}
+use Rattle.std.specs.Prelude.{◌≡◌, Bool, cond, get_or, Ok}
 use Rattle.std.proofs.Math.Path.{refl, ap}
 use Rattle.std.proofs.Common.{subst, ◌∙◌, inl, inr, arith}
 use Rattle.std.proofs.Math.Bool.{true, false}
@@ -8,7 +8,6 @@ use mathlib.Core.List.{List, [], ◌∷◌, map}
 use Rattle.std.proofs.Math.ListN.{length}
 use borrow.Author.Tests.{le-leb, lt-ltb}
 use Rattle.formula.specs.declared.Shape.{Shape}
-use Rattle.formula.specs.declared.Verdict.TheVariants.{Passed}
 use Rattle.formula.specs.Sheet.{row_count, lines_of, fields_of, field, shape_at, named_in}
 use Rattle.formula.specs.Tests.{ended_at, fields_well, ranges_well, all_between, names_well}
 use Rattle.formula.specs.FaultRows.{Among}
@@ -152,11 +151,11 @@ module _ (s : List ℕ) (ok : Rowwise s) where
         names = λ j l u. let w = new-from j l u in subst (λ (i : ℕ). names_well (fields_of (tidied s)) i ≡ true) w.number (new-names w.row w.low w.high w.kept);
       }
 
-module _ (s : List ℕ) (h : row_verdict s ≡ Passed) where
+module _ (s : List ℕ) (h : row_verdict s ≡ Ok tt) where
   -- The new sheet's fields are those of the kept rows, renumbered, one after the other; it has as many rows, and is not longer than the sheet.
   pub tidied-fields : Holding s
   tidied-fields = holding s (passes-rowwise s h)
 
   -- The new sheet passes tests 1 to 5.
-  pub tidied-passes : row_verdict (tidied s) ≡ Passed
+  pub tidied-passes : row_verdict (tidied s) ≡ Ok tt
   tidied-passes = rowwise-passes (tidied s) (tidied-rowwise s (passes-rowwise s h))

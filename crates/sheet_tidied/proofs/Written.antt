@@ -1,6 +1,6 @@
 -- A tidied sheet in lent memory (document 02, Job 8: "writes the sheet from the start of a lent memory"): its rows written one behind another, that
 -- it fits what the call needs, and that a copy of it, tidied into the same memory, leaves every byte there.
-use Rattle.std.specs.Prelude.{ℕ, ◌+◌, ◌≤◌, ◌≡◌, Bool, cond, List, [], ◌∷◌, ◌++◌, get_or, set, take, drop}
+use Rattle.std.specs.Prelude.{ℕ, ◌+◌, ◌≤◌, ◌≡◌, Bool, cond, List, [], ◌∷◌, ◌++◌, get_or, set, take, drop, Ok}
 use Rattle.std.proofs.Math.Path.{refl}
 use Rattle.std.proofs.Common.{ap, ◌∙◌, append-nil, length-drop, drop_at}
 use Rattle.std.proofs.Math.Bool.{true, false}
@@ -11,7 +11,6 @@ use Rattle.std.proofs.Math.Seq.{length-sets, take_at}
 use borrow.Author.Tests.{ltb-true}
 use native.Mathlib.Omega.{arith}
 use Rattle.value.specs.Operators.{pick}
-use Rattle.formula.specs.declared.Verdict.TheVariants.{Passed}
 use Rattle.text.specs.Printed.{number_field}
 use Rattle.text.proofs.PrintLaws.{number-length, written_both}
 use Rattle.sheet_tidied.specs.Text.{row_text, sheet_text}
@@ -75,7 +74,7 @@ module _ (t : List ℕ) (k : List Bool) (i : ℕ) where
       ∙ ap sheet_text (append-nil (kept_rows t k i))
 
 -- ---- the whole sheet in memory
-module _ (s : List ℕ) (h : row_verdict s ≡ Passed) where
+module _ (s : List ℕ) (h : row_verdict s ≡ Ok tt) where
   -- It fits what the call needs.
   pub tidied-fits : length (tidied s) ≤ tidy_need s
   unfolding tidy_need
@@ -100,7 +99,7 @@ module _ (s out : List ℕ) (l : length (tidied s) ≤ length out) where
   written_new = take_at (tidied s) (drop (length (tidied s)) out) (length (tidied s)) refl
 
 -- A copy of the new sheet, tidied into the memory that holds it, leaves every byte there.
-pub written_twice : (s out : List ℕ) → row_verdict s ≡ Passed → tidy_written (tidied s) (tidy_written s out) ≡ tidy_written s out
+pub written_twice : (s out : List ℕ) → row_verdict s ≡ Ok tt → tidy_written (tidied s) (tidy_written s out) ≡ tidy_written s out
 unfolding tidy_written
 written_twice s out h =
     rw (tidied-twice s h) (ap (λ (x : List ℕ). tidied s ++ x) (drop_at (tidied s) (drop (length (tidied s)) out) (length (tidied s)) refl))

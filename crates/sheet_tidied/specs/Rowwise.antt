@@ -5,9 +5,6 @@ use Rattle.std.proofs.Math.Bool.{true}
 use Rattle.std.proofs.Math.ListN.{length}
 use borrow.Author.Tests.{leb-true, le-leb, eqb-true, eqb-false, eq-eqb, ne_eqb, not-true}
 use native.Mathlib.Omega.{arith}
-use Rattle.formula.specs.declared.Check.{Check}
-use Rattle.formula.specs.declared.Check.TheVariants.{Passed as well, Fault}
-use Rattle.formula.specs.declared.Verdict.TheVariants.{Passed}
 use Rattle.formula.specs.Sheet.{row_count, lines_of, fields_of, shape_at, named_in}
 use Rattle.formula.specs.Tests.{ended_at, lowest, whole, is-passed, laid_out, few_rows, fields_well, ranges_well, names_well, row_tests, sheet_of}
 use Rattle.formula.specs.Verdicts.{Each, ◌also◌, Passes}

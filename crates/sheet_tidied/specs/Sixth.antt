@@ -1,11 +1,7 @@
 -- Test 6 of a sheet that passes tests 1 to 5: it is then the first refusal, whatever the kinds line.
 use Rattle.std.specs.Prelude.{ℕ, ◌-◌, ◌↔◌, List, ◌++◌, drop}
-use Rattle.formula.specs.declared.Check.{Check}
-use Rattle.formula.specs.declared.Check.TheVariants.{Passed as well, Fault}
+use Rattle.formula.specs.Results.{Check}
 use Rattle.formula.specs.declared.Refusal.TheVariants.{Named}
-use Rattle.formula.specs.declared.Verdict.{Verdict}
-use Rattle.formula.specs.declared.Verdict.TheVariants.{Passed, Refused}
-use Rattle.formula.specs.declared.Reading.TheVariants.{Accepted, Rejected}
 use Rattle.formula.specs.declared.Figures.{Figures}
 use Rattle.formula.specs.Refusals.{number_of}
 use Rattle.formula.specs.Sheet.{row_count, fields_of}

@@ -3,7 +3,6 @@
 use Prim.Native.Nat.{ℕ, zero, suc, ◌+◌, ◌*◌, ◌-◌, ◌≤◌, ◌<◌}
 use Rattle.std.specs.Prelude.{◌≡◌, Bool, ◌&&◌, length, get_or, take, drop}
 use mathlib.Core.List.{List, [], ◌∷◌, ◌++◌, map, flatten, append_assoc, append-nil}
-use Rattle.formula.specs.declared.Field.TheVariants.{Number}
 use Rattle.formula.specs.declared.Shape.{Shape}
 use Rattle.formula.specs.Sheet.{row_count, lines_in, lines_of, field_text, field_of, fields_in, fields_of, field, shape_of, shape_at}
 use Rattle.formula.specs.Tests.{line_at, ended_at, well_formed, fields_well, in_range, ranges_well}

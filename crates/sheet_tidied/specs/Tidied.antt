@@ -6,7 +6,6 @@ use mathlib.Core.List.{List, [], ◌∷◌, map, flatten}
 use Rattle.std.proofs.Math.ListN.{length}
 use borrow.Author.Tests.{le-leb, lt-ltb}
 use Rattle.formula.specs.declared.Shape.{Shape}
-use Rattle.formula.specs.declared.Verdict.TheVariants.{Passed}
 use Rattle.formula.specs.Sheet.{row_count, lines_of, fields_of, field, shape_at, named_in}
 use Rattle.formula.specs.Tests.{ended_at, fields_well, ranges_well, all_between, names_well}
 use Rattle.formula.specs.FaultRows.{Among}

@@ -11,7 +11,8 @@ use borrow.Author.Tests.{lt-ltb, le-ltb}
 use Rattle.value.specs.Operators.{pick}
 use Rattle.formula.specs.declared.Refusal.{Refusal}
 use Rattle.formula.specs.declared.Refusal.TheVariants.{Memory}
-use Rattle.formula.specs.declared.Verdict.TheVariants.{Passed, Refused}
+use Rattle.formula.specs.Results.{refused}
+use Rattle.std.specs.Prelude.{Ok}
 use Rattle.formula.specs.Refusals.{number_of}
 use Rattle.formula.specs.Sheet.{row_count, fields_of}
 use Rattle.formula.proofs.Acceptance.{low-row}
@@ -26,7 +27,7 @@ use Rattle.sheet_tidy.specs.Tidying.{handed, answers, by_verdict, tidied_into}
 
 module _ (s : List ℕ) where
   -- The row of a refusal is small.
-  pub refused-low : (r : Refusal) (row : ℕ) → row_verdict s ≡ Refused r row → row ≤ 200
+  pub refused-low : (r : Refusal) (row : ℕ) → row_verdict s ≡ refused r row → row ≤ 200
   refused-low r row h = low-row s [] r row (sym (rows-refuse s [] (row_verdict s) r row refl h))
 
   module _ (out : List ℕ) where
@@ -35,7 +36,7 @@ module _ (s : List ℕ) where
     memory-short h = rw (lt-ltb (length out) (tidy_need s) h) refl
 
     module _ (h : tidy_need s ≤ length out) where
-      pub tests-refuse : (r : Refusal) (row : ℕ) → row_verdict s ≡ Refused r row → handed (answers (number_of r) row 0) out ≡ tidied_into s out
+      pub tests-refuse : (r : Refusal) (row : ℕ) → row_verdict s ≡ refused r row → handed (answers (number_of r) row 0) out ≡ tidied_into s out
       unfolding tidied_into by_verdict
       tests-refuse r row e = rw (le-ltb (length out) (tidy_need s) h, e) refl
 
@@ -48,7 +49,7 @@ module _ (s : List ℕ) where
           go true few h = omega arith
           go false few h = omega arith
 
-      pub tests-pass : row_verdict s ≡ Passed → (c : ℕ) (out' : List ℕ) → c ≡ length (rows_of (fields_of s) (row_count s))
+      pub tests-pass : row_verdict s ≡ Ok tt → (c : ℕ) (out' : List ℕ) → c ≡ length (rows_of (fields_of s) (row_count s))
           → out' ≡ sets out 0 (sheet_text (rows_of (fields_of s) (row_count s))) → handed (answers 0 0 c) out' ≡ tidied_into s out
       unfolding tidied_into by_verdict new_rows tidied
       tests-pass e c out' f g =

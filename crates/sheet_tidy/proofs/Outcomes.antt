@@ -1,7 +1,7 @@
 -- Laws of specs/Outcomes.antt, and what only they need.
-use Rattle.std.specs.Prelude.{◌≡◌, refl, ◌++◌}
+use Rattle.std.specs.Prelude.{◌≡◌, refl, ◌++◌, Ok}
 use Rattle.formula.specs.declared.Refusal.TheVariants.{Rows, Malformed, Naming, Named, Memory}
-use Rattle.formula.specs.declared.Reading.TheVariants.{Accepted, Rejected}
+use Rattle.formula.specs.Results.{refused}
 use Rattle.formula.specs.Refusals.{number_of}
 use Rattle.formula.specs.Tests.{reading_of, figures_of}
 use Rattle.examples.specs.Sheets.{bytes, alike, constant_row}
@@ -18,11 +18,11 @@ unfolding tidied_into bytes with_dead_rows
 one-byte-short = refl
 
 -- As they are handed in: the one is refused with 6, the other accepted.
-read-as-handed-in : reading_of (bytes with_dead_rows) (bytes "W\n") ≡ Rejected Named 4
+read-as-handed-in : reading_of (bytes with_dead_rows) (bytes "W\n") ≡ refused Named 4
 unfolding reading_of bytes with_dead_rows
 read-as-handed-in = refl
 
-tidied-accepted : reading_of (bytes without) (bytes "W\n") ≡ Accepted (figures_of (bytes without))
+tidied-accepted : reading_of (bytes without) (bytes "W\n") ≡ Ok (figures_of (bytes without))
 unfolding reading_of bytes without
 tidied-accepted = refl
 
@@ -30,11 +30,11 @@ doubled-name-stays : tidied_into (bytes pair_of_one) (sevens 124) ≡ handed (an
 unfolding tidied_into bytes pair_of_one still_of_one
 doubled-name-stays = refl
 
-doubled-name-refused : reading_of (bytes still_of_one) (bytes "W\n") ≡ Rejected Named 1
+doubled-name-refused : reading_of (bytes still_of_one) (bytes "W\n") ≡ refused Named 1
 unfolding reading_of bytes still_of_one
 doubled-name-refused = refl
 
-dead-name-refused : reading_of (bytes named_from_dead_row) (bytes "W\n") ≡ Rejected Named 1
+dead-name-refused : reading_of (bytes named_from_dead_row) (bytes "W\n") ≡ refused Named 1
 unfolding reading_of bytes named_from_dead_row
 dead-name-refused = refl
 
@@ -42,7 +42,7 @@ dead-name-gone : tidied_into (bytes named_from_dead_row) (sevens 93) ≡ handed 
 unfolding tidied_into bytes named_from_dead_row named_once_now
 dead-name-gone = refl
 
-dead-name-accepted : reading_of (bytes named_once_now) (bytes "W\n") ≡ Accepted (figures_of (bytes named_once_now))
+dead-name-accepted : reading_of (bytes named_once_now) (bytes "W\n") ≡ Ok (figures_of (bytes named_once_now))
 unfolding reading_of bytes named_once_now
 dead-name-accepted = refl
 
@@ -58,7 +58,7 @@ every-kind : tidied_into (bytes every_kind) (sevens 465) ≡ handed (answers 0 0
 unfolding tidied_into bytes every_kind every_kind_tidied
 every-kind = refl
 
-every-kind-accepted : reading_of (bytes every_kind_tidied) (bytes "R\n") ≡ Accepted (figures_of (bytes every_kind_tidied))
+every-kind-accepted : reading_of (bytes every_kind_tidied) (bytes "R\n") ≡ Ok (figures_of (bytes every_kind_tidied))
 unfolding reading_of bytes every_kind_tidied
 every-kind-accepted = refl
 

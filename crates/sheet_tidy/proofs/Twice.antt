@@ -1,10 +1,9 @@
 -- Document 02, Job 8: "Tidying twice changes nothing more", of the call and every lent byte. What an accepted call wrote from the start of the memory is the new
 -- sheet; a copy of it, tidied into that same memory, is accepted with as many rows and leaves every byte. Assumes that the sheet passes tests 1 to 5 and the
 -- memory is as long as the call needs, so that it is accepted.
-use Rattle.std.specs.Prelude.{ℕ, ◌*◌, ◌≤◌, ◌≡◌, refl, Bool, true, false, List, ltb, length, take}
+use Rattle.std.specs.Prelude.{ℕ, ◌*◌, ◌≤◌, ◌≡◌, refl, Bool, true, false, List, ltb, length, take, Ok}
 use Rattle.std.proofs.Common.{sym, ap, ◌∙◌, le-ltb, ltb-true, arith}
 use Rattle.value.specs.Operators.{pick}
-use Rattle.formula.specs.declared.Verdict.TheVariants.{Passed}
 use Rattle.sheet_tidied.specs.Tidy.{new_rows, tidied, most_sheet_bytes, tidy_need, tidy_written}
 use Rattle.sheet_read.specs.Reading.{row_verdict}
 use Rattle.sheet_tidied.proofs.Tidied.{tidied-fields, tidied-passes}
@@ -13,7 +12,7 @@ use Rattle.sheet_tidied.proofs.Written.{tidied-fits, written-length, written_new
 use Rattle.sheet_tidy.specs.Tidying.{Handed, handed, answers, by_verdict, tidied_into}
 
 -- An accepted call.
-pub tidy-accepted : (s out : List ℕ) → row_verdict s ≡ Passed → tidy_need s ≤ length out → tidied_into s out ≡ handed (answers 0 0 (length (new_rows s))) (tidy_written s out)
+pub tidy-accepted : (s out : List ℕ) → row_verdict s ≡ Ok tt → tidy_need s ≤ length out → tidied_into s out ≡ handed (answers 0 0 (length (new_rows s))) (tidy_written s out)
 unfolding tidied_into by_verdict
 tidy-accepted s out h l = rw (le-ltb (length out) (tidy_need s) l, h) refl
 
@@ -25,7 +24,7 @@ need-most s = go (ltb most_sheet_bytes (length s)) refl
     go true e = let m = ltb-true most_sheet_bytes (length s) e in omega (arith, m)
     go false e = omega arith
 
-module _ (s out : List ℕ) (h : row_verdict s ≡ Passed) (l : tidy_need s ≤ length out) where
+module _ (s out : List ℕ) (h : row_verdict s ≡ Ok tt) (l : tidy_need s ≤ length out) where
   fits : length (tidied s) ≤ length out
   fits = omega (arith, tidied-fits s h, l)
 

@@ -3,7 +3,6 @@
 use Rattle.std.specs.Prelude.{ℕ, ◌≡◌, refl, List, ◌++◌, replicate}
 use Prim.Native.String.{String}
 use Rattle.formula.specs.declared.Refusal.TheVariants.{Rows, Malformed, Naming, Named, Memory}
-use Rattle.formula.specs.declared.Reading.TheVariants.{Accepted, Rejected}
 use Rattle.formula.specs.Refusals.{number_of}
 use Rattle.formula.specs.Tests.{reading_of, figures_of}
 use Rattle.examples.specs.Sheets.{bytes, alike, constant_row}

@@ -12,35 +12,24 @@ use sheet_fields::shape::shape_at;
 use sheet_rows::places::mark_one;
 
 // The rows that a row of shape s names are kept.
+#[tactic(auto, unfolding(formula::specs::Sheet::named_in, formula::specs::Places::mark))]
 fn keep_named(kept: &mut [bool], s: Shape)
     requires { AllBetween (length kept.old + 1) (named_in s) }
     ensures { kept.new ≡ mark (named_in s) kept.old }
 {
     match s {
-        Shape::Identifier(_) => {}
-        Shape::Constant(_, _) => {}
-        Shape::Pair(a, b) => {
+        Shape::Identifier(_) | Shape::Constant(_, _) => {}
+        Shape::Operator(_, a) | Shape::Iter(a) => {
+            mark_one(kept, a);
+        }
+        Shape::Pair(a, b) | Shape::Let(_, _, a, b) | Shape::For(_, _, a, b) => {
             mark_one(kept, a);
             mark_one(kept, b);
-        }
-        Shape::Operator(_, b) => {
-            mark_one(kept, b);
-        }
-        Shape::Let(_, _, c, d) => {
-            mark_one(kept, c);
-            mark_one(kept, d);
         }
         Shape::If(a, b, c) => {
             mark_one(kept, a);
             mark_one(kept, b);
             mark_one(kept, c);
-        }
-        Shape::For(_, _, c, d) => {
-            mark_one(kept, c);
-            mark_one(kept, d);
-        }
-        Shape::Iter(a) => {
-            mark_one(kept, a);
         }
     }
 }
@@ -61,10 +50,8 @@ pub fn find_kept(fields: &[u32], n: usize, kept: &mut [bool])
     ensures { kept.new ≡ kept_of fields.now n }
 {
     mark_one(kept, n);
-    let mut r = n;
-    while 0 < r {
+    for r in (1..=n).rev() {
         keep_row(fields, r, kept);
-        r -= 1;
     }
 }
 
@@ -74,15 +61,12 @@ pub fn number_rows(kept: &[bool], numbers: &mut [u32]) -> u32
     ensures { (result ≡ new_number kept.now (length kept.now))
         × Holds 0 numbers.new (length kept.now) (new_number kept.now) }
 {
-    let n = kept.len();
     let mut count = 0u32;
-    let mut i = 0;
-    while i < n {
-        if kept[i] {
+    for (i, &stays) in kept.iter().enumerate() {
+        if stays {
             count += 1;
         }
         numbers[i] = count;
-        i += 1;
     }
     count
 }

@@ -16,10 +16,9 @@ ghost use Rattle.sheet_tidy.specs.Tidying.{handed, answers, tidied_into};
 
 use crate::kept::{find_kept, number_rows};
 use crate::rows::write_rows;
-use formula::{Refusal, Verdict, refusal_number};
-use sheet_fields::blank;
+use formula::{Refusal, Refused};
 use sheet_fields::layout::{MOST_ROWS, ROW_BYTES};
-use sheet_fields::shape::FIELDS;
+use sheet_fields::shape::{FIELDS, MOST_FIELDS};
 use sheet_read::read::row_tests;
 
 // The answer: document 01's number of a refusal, 0 where accepted; its row; the rows of the new sheet.
@@ -37,21 +36,18 @@ fn refused(r: Refusal, row: u32) -> TidyAnswer
     ensures { result ≡ answers (number_of r) row 0 }
 {
     TidyAnswer {
-        refusal: refusal_number(r),
+        refusal: u32::from(r),
         row,
         rows: 0,
     }
 }
 
 // The room that a tidied sheet may need, by the length of the sheet.
+#[tactic(auto, unfolding(sheet_tidied::specs::Tidy::tidy_need))]
 fn need(sheet: &[u8]) -> usize
     ensures { result ≡ tidy_need sheet.now }
 {
-    let bytes = sheet.len();
-    if MOST_SHEET_BYTES < bytes {
-        return MOST_SHEET_BYTES;
-    }
-    bytes
+    sheet.len().min(MOST_SHEET_BYTES)
 }
 
 // Writes the kept rows of a sheet of n rows with these fields, and counts them.
@@ -59,8 +55,8 @@ fn write_kept(fields: &[u32], n: usize, out: &mut [u8]) -> u32
     requires { (length fields.now ≡ 5 * n) × (1 ≤ n) × (n ≤ 200) × Named fields.now n × (31 * n ≤ length out.old) }
     ensures { (result ≡ length (rows_of fields.now n)) × (out.new ≡ sets out.old 0 (sheet_text (rows_of fields.now n))) }
 {
-    let mut kept = blank::marks();
-    let mut numbers = blank::numbers();
+    let mut kept = [false; MOST_ROWS];
+    let mut numbers = [0u32; MOST_ROWS];
     find_kept(fields, n, &mut kept[..n]);
     let rows = number_rows(&kept[..n], &mut numbers[..n]);
     write_rows(fields, n, &kept[..n], &numbers[..n], out);
@@ -74,10 +70,10 @@ pub fn tidy(sheet: &[u8], out: &mut [u8]) -> TidyAnswer
     if out.len() < need(sheet) {
         return refused(Refusal::Memory, 0);
     }
-    let mut fields = blank::fields();
+    let mut fields = [0u32; MOST_FIELDS];
     match row_tests(sheet, &mut fields) {
-        Verdict::Refused(r, row) => refused(r, row as u32),
-        Verdict::Passed => {
+        Err(Refused { refusal, row }) => refused(refusal, row as u32),
+        Ok(()) => {
             let n = sheet.len() / ROW_BYTES;
             let end = FIELDS * n;
             TidyAnswer {

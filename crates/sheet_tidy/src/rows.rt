@@ -9,12 +9,13 @@ ghost use Rattle.sheet_tidied.specs.Tidy.{new_number, renamed, kept_rows};
 ghost use Rattle.sheet_tidy.specs.Rows.{listed};
 
 use formula::Shape;
-use sheet_fields::layout::ROW_BYTES;
-use sheet_fields::shape::shape_at;
+use sheet_fields::decode::{A_AT, B_AT, C_AT, D_AT};
+use sheet_fields::layout::{LINE_FEED, LINE_FEED_AT, ROW_BYTES};
+use sheet_fields::shape::{entry, shape_at};
 use text_print::put_number;
 
 // The five fields of a row.
-#[derive(Clone, Copy)]
+#[derive(Clone, Copy, PartialEq)]
 pub struct RowFields {
     pub kind: u32,
     pub a: u32,
@@ -23,34 +24,14 @@ pub struct RowFields {
     pub d: u32,
 }
 
-// Where a row's fields a to d and its line feed stand.
-const A_AT: usize = 6;
-
-const B_AT: usize = 12;
-
-const C_AT: usize = 18;
-
-const D_AT: usize = 24;
-
-const LINE_FEED_AT: usize = 30;
-
-const LINE_FEED: u8 = 10;
-
 pub fn row(kind: u32, a: u32, b: u32, c: u32, d: u32) -> RowFields
     ensures { result ≡ record { kind = kind; a = a; b = b; c = c; d = d } }
 {
     RowFields { kind, a, b, c, d }
 }
 
-// The new number of row r.
-fn number_at(numbers: &[u32], r: usize) -> u32
-    requires { (1 ≤ r) × (r ≤ length numbers.now) }
-    ensures { result ≡ get_or numbers.now (r - 1) 0 }
-{
-    numbers[r - 1]
-}
-
 // The row of a shape, with the new number of each row that it names.
+#[tactic(auto, unfolding(formula::specs::Sheet::named_in, sheet_tidied::specs::Tidy::renamed))]
 fn rename(s: Shape, numbers: &[u32]) -> RowFields
     requires { AllBetween (length numbers.now + 1) (named_in s) }
     ensures { listed result ≡ renamed (λ x. get_or numbers.now (x - 1) 0) s }
@@ -58,18 +39,18 @@ fn rename(s: Shape, numbers: &[u32]) -> RowFields
     match s {
         Shape::Identifier(a) => row(1, a, 0, 0, 0),
         Shape::Constant(kind, a) => row(kind, a, 0, 0, 0),
-        Shape::Pair(a, b) => row(4, number_at(numbers, a), number_at(numbers, b), 0, 0),
-        Shape::Operator(a, b) => row(5, a, number_at(numbers, b), 0, 0),
-        Shape::Let(a, b, c, d) => row(6, a, b, number_at(numbers, c), number_at(numbers, d)),
+        Shape::Pair(a, b) => row(4, entry(numbers, a), entry(numbers, b), 0, 0),
+        Shape::Operator(a, b) => row(5, a, entry(numbers, b), 0, 0),
+        Shape::Let(a, b, c, d) => row(6, a, b, entry(numbers, c), entry(numbers, d)),
         Shape::If(a, b, c) => row(
             7,
-            number_at(numbers, a),
-            number_at(numbers, b),
-            number_at(numbers, c),
+            entry(numbers, a),
+            entry(numbers, b),
+            entry(numbers, c),
             0,
         ),
-        Shape::For(a, b, c, d) => row(8, a, b, number_at(numbers, c), number_at(numbers, d)),
-        Shape::Iter(a) => row(9, number_at(numbers, a), 0, 0, 0),
+        Shape::For(a, b, c, d) => row(8, a, b, entry(numbers, c), entry(numbers, d)),
+        Shape::Iter(a) => row(9, entry(numbers, a), 0, 0, 0),
     }
 }
 
@@ -101,12 +82,10 @@ pub fn write_rows(fields: &[u32], n: usize, kept: &[bool], numbers: &[u32], out:
     ensures { out.new ≡ sets out.old 0 (sheet_text (kept_rows fields.now kept.now n)) }
 {
     let mut at = 0;
-    let mut i = 0;
-    while i < n {
+    for i in 0..n {
         if kept[i] {
             put_row(out, at, new_row(fields, i + 1, numbers));
             at += ROW_BYTES;
         }
-        i += 1;
     }
 }

@@ -1,5 +1,5 @@
 -- A value field's definition, one byte at a time, over the part of the bytes from i to end, and the words of its values. Assumes nothing.
-use Rattle.std.specs.Prelude.{ℕ, zero, suc, ◌+◌, ◌*◌, ◌-◌, ◌/◌, ◌%◌, ◌≤◌, ◌<◌, ◌≡◌, Bool, true, false, length, get_or, eqb}
+use Rattle.std.specs.Prelude.{ℕ, zero, suc, ◌+◌, ◌*◌, ◌-◌, ◌/◌, ◌%◌, ◌≤◌, ◌<◌, ◌≡◌, Bool, true, false, length, get_or, eqb, Some, None}
 use Rattle.std.proofs.Math.Path.{refl, ap}
 use Rattle.std.proofs.Common.{sym, ◌∙◌, arith, add-one}
 use Rattle.std.proofs.Math.Bool.{cond}
@@ -14,44 +14,43 @@ use Rattle.value.specs.declared.Value.TheVariants.{Truth, Err}
 use Rattle.value.specs.Operators.{pick}
 use Rattle.value.specs.Bytes.{word_of, value_of, float_of, decoded, word_or}
 use Rattle.value.proofs.Words.{tag-four, pattern-large}
-use Rattle.formula.specs.declared.Field.TheVariants.{Number, Malformed}
 use Rattle.formula.specs.Sheet.{digits_of, field_of}
 use Rattle.text.specs.Fields.{positive, negative, behind_minus, patterned, behind_r, alone, field_value, word_by}
 use Rattle.text.specs.Printed.{letter_of}
 
 -- ---- numbers
-pub positive-word : (n : ℕ) → n ≤ 2147483647 → word_by (positive (Number n)) ≡ 1 + 256 * n
+pub positive-word : (n : ℕ) → n ≤ 2147483647 → word_by (positive (Some n)) ≡ 1 + 256 * n
 unfolding positive word_of
 positive-word n h = rw (le-leb n 2147483647 h) refl
 
-pub positive-large : (n : ℕ) → 2147483647 < n → word_by (positive (Number n)) ≡ 0
+pub positive-large : (n : ℕ) → 2147483647 < n → word_by (positive (Some n)) ≡ 0
 unfolding positive
 positive-large n h = rw (lt-leb n 2147483647 h) refl
 
-pub positive-malformed : word_by (positive Malformed) ≡ 0
+pub positive-malformed : word_by (positive None) ≡ 0
 unfolding positive
 positive-malformed = refl
 
-pub negative-word : (n : ℕ) → (n ≡ 0 → ⊥) → n ≤ 2147483648 → word_by (negative (Number n)) ≡ 1 + 256 * (4294967296 - n)
+pub negative-word : (n : ℕ) → (n ≡ 0 → ⊥) → n ≤ 2147483648 → word_by (negative (Some n)) ≡ 1 + 256 * (4294967296 - n)
 unfolding negative word_of
 negative-word zero z h = absurd (z refl)
 negative-word (suc n) z h = rw (le-leb n 2147483647 (omega arith)) refl
 
-pub negative-large : (n : ℕ) → 2147483648 < n → word_by (negative (Number n)) ≡ 0
+pub negative-large : (n : ℕ) → 2147483648 < n → word_by (negative (Some n)) ≡ 0
 unfolding negative
 negative-large zero h = refl
 negative-large (suc n) h = rw (lt-leb n 2147483647 (omega arith)) refl
 
-pub negative-zero : word_by (negative (Number 0)) ≡ 0
+pub negative-zero : word_by (negative (Some 0)) ≡ 0
 unfolding negative
 negative-zero = refl
 
-pub negative-malformed : word_by (negative Malformed) ≡ 0
+pub negative-malformed : word_by (negative None) ≡ 0
 unfolding negative
 negative-malformed = refl
 
 -- ---- floats
-pub patterned-word : (n : ℕ) → word_or (decoded (value_of (4 + 256 * n))) ≡ word_by (patterned (Number n))
+pub patterned-word : (n : ℕ) → word_or (decoded (value_of (4 + 256 * n))) ≡ word_by (patterned (Some n))
 unfolding patterned
 patterned-word n =
     let t : (4 + 256 * n) % 256 ≡ 4 = omega arith in
@@ -62,11 +61,11 @@ patterned-word n =
     go (some v) = refl
     go none = refl
 
-pub patterned-large : (n : ℕ) → 4294967296 ≤ n → word_by (patterned (Number n)) ≡ 0
+pub patterned-large : (n : ℕ) → 4294967296 ≤ n → word_by (patterned (Some n)) ≡ 0
 unfolding patterned
 patterned-large n h = ap word_by (pattern-large n h)
 
-pub patterned-malformed : word_by (patterned Malformed) ≡ 0
+pub patterned-malformed : word_by (patterned None) ≡ 0
 unfolding patterned
 patterned-malformed = refl
 

@@ -1,6 +1,6 @@
 -- Laws of specs/RoundTrip.antt, and what only they need.
 use Prim.Native.Nat.{ℕ, zero, suc, ◌+◌, ◌*◌, ◌-◌, ◌/◌, ◌%◌, ◌^◌, ◌≤◌, ◌<◌}
-use Rattle.std.specs.Prelude.{◌≡◌, Bool, true, false, cond, pos, negsuc, Float, get_or, take, drop, replicate}
+use Rattle.std.specs.Prelude.{◌≡◌, Bool, true, false, cond, pos, negsuc, Float, get_or, take, drop, replicate, Some, None}
 use Rattle.std.proofs.Math.Path.{refl, sym, ap}
 use Rattle.std.proofs.Common.{◌∙◌, arith, pow-suc, length-append, take_at, drop_at, take-suc}
 use mathlib.Core.List.{List, [], ◌∷◌, ◌++◌, map, append_assoc, append-nil}
@@ -20,7 +20,6 @@ use Rattle.value.specs.Kinds.{of_kind}
 use Rattle.value.specs.Bytes.{InRange, word_of, value_of, float_of, word_bytes, bytes_of, word_at}
 use Rattle.value.proofs.Floats.{bits_below, real-parts}
 use Rattle.value.proofs.Words.{value-of-word, real-word-is, tag-four, word_lt, stored-parts, word-stored}
-use Rattle.formula.specs.declared.Field.TheVariants.{Number, Malformed}
 use Rattle.formula.specs.Sheet.{is_digit, digits_of, zero_of, field_of}
 use Rattle.text.specs.Fields.{positive, negative, behind_minus, patterned, behind_r, alone, field_value}
 use Rattle.text.specs.Printed.{led, shown, number_field, letter_field, value_field, option_field, word_field, result_fields, result_line}
@@ -37,7 +36,7 @@ digits-onward d h v [] =
 digits-onward d h v (b ∷ s) = go (is_digit b) (digits-onward d h (v * 10 + (b - 48)) s)
   where
     go : (x : Bool) → digits_of (v * 10 + (b - 48)) (s ++ ((48 + d) ∷ [])) ≡ onward d (digits_of (v * 10 + (b - 48)) s)
-        → cond x (digits_of (v * 10 + (b - 48)) (s ++ ((48 + d) ∷ []))) Malformed ≡ onward d (cond x (digits_of (v * 10 + (b - 48)) s) Malformed)
+        → cond x (digits_of (v * 10 + (b - 48)) (s ++ ((48 + d) ∷ []))) None ≡ onward d (cond x (digits_of (v * 10 + (b - 48)) s) None)
     go true e = e
     go false e = refl
 
@@ -67,7 +66,7 @@ written_last stands before w n p k h =
       lead = is-led stands w n p h;
       low = omega arith;
       high = omega arith;
-      number = ap Number e;
+      number = ap Some e;
     }
 
 written-more : (stands : Bool) (before w n : ℕ) → 10 ≤ n → Written stands before w (n / 10) → Written stands before (suc w) n
@@ -82,7 +81,7 @@ written-more stands before w n k W =
       lead = W.lead;
       low = W.low;
       high = W.high;
-      number = digits-onward (n % 10) (omega arith) (W.first - 48) W.rest ∙ ap (onward (n % 10)) W.number ∙ ap Number e;
+      number = digits-onward (n % 10) (omega arith) (W.first - 48) W.rest ∙ ap (onward (n % 10)) W.number ∙ ap Some e;
     }
 
 written : (stands : Bool) (before w n : ℕ) → 0 < n → n < room stands w → Written stands before w n
@@ -106,7 +105,7 @@ first-digit : (b : ℕ) (s : List ℕ) → 49 ≤ b → b ≤ 57 → field_of (b
 unfolding field_of
 first-digit b s l h = rw (ne_eqb b 32 (λ e. omega arith), ne_eqb b 48 (λ e. omega arith), le-leb 48 b (omega arith), le-leb b 57 h) refl
 
-pub field-reads-back : (w n : ℕ) → n < 10 ^ suc w → field_of (shown 32 (suc w) n) ≡ Number n
+pub field-reads-back : (w n : ℕ) → n < 10 ^ suc w → field_of (shown 32 (suc w) n) ≡ Some n
 unfolding field_of zero_of
 field-reads-back w zero h = ap field_of (shown-last 32 w 0 (omega arith)) ∙ spaces-skipped w (48 ∷ [])
 field-reads-back w (suc n) h =
@@ -117,7 +116,7 @@ field-reads-back w (suc n) h =
     ∙ W.number
 
 -- "six-character fields"
-pub number-reads-back : (n : ℕ) → n ≤ 999999 → field_of (number_field n) ≡ Number n
+pub number-reads-back : (n : ℕ) → n ≤ 999999 → field_of (number_field n) ≡ Some n
 unfolding number_field
 number-reads-back n h = field-reads-back 5 n (omega arith)
 
@@ -140,7 +139,7 @@ r-first : (b : ℕ) (s : List ℕ) → 48 ≤ b → field_value (82 ∷ b ∷ s)
 unfolding field_value behind_r
 r-first b s l = ap (λ (t : Bool). cond t none (patterned (field_of (b ∷ s)))) (ne_eqb b 32 (λ e. omega arith))
 
-pub positive-reads-back : (w n : ℕ) → n < 10 ^ suc w → field_value (shown 32 (suc w) n) ≡ positive (Number n)
+pub positive-reads-back : (w n : ℕ) → n < 10 ^ suc w → field_value (shown 32 (suc w) n) ≡ positive (Some n)
 unfolding field_of zero_of
 positive-reads-back w zero h =
     ap field_value (shown-last 32 w 0 (omega arith) ∙ ap (λ (l : List ℕ). l ++ (48 ∷ [])) (led-spaces w))
@@ -158,7 +157,7 @@ unfolding led
 led-skipped before zero s h = absurd (omega arith)
 led-skipped before (suc k) s h = ap field_value (append_assoc (replicate k 32) (before ∷ []) s) ∙ blanks-skipped k (before ∷ s)
 
-pub negative-reads-back : (w n : ℕ) → 0 < n → n < 10 ^ w → field_value (shown 45 (suc w) n) ≡ negative (Number n)
+pub negative-reads-back : (w n : ℕ) → 0 < n → n < 10 ^ w → field_value (shown 45 (suc w) n) ≡ negative (Some n)
 negative-reads-back w n p h =
     let W = written true 45 (suc w) n p h in
     ap field_value W.text
@@ -166,7 +165,7 @@ negative-reads-back w n p h =
     ∙ minus-first W.first W.rest W.low W.high
     ∙ ap negative W.number
 
-pub pattern-reads-back : (w n : ℕ) → 0 < w → n < 10 ^ w → field_value (shown 82 (suc w) n) ≡ patterned (Number n)
+pub pattern-reads-back : (w n : ℕ) → 0 < w → n < 10 ^ w → field_value (shown 82 (suc w) n) ≡ patterned (Some n)
 unfolding field_of zero_of
 pattern-reads-back w zero p h =
     ap field_value (shown-last 82 w 0 (omega arith)) ∙ led-skipped 82 w (48 ∷ []) p ∙ r-first 48 [] (omega arith)

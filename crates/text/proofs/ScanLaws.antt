@@ -1,8 +1,7 @@
 -- Laws of specs/ScanLaws.antt, and what only they need.
-use Rattle.std.specs.Prelude.{ℕ, zero, suc, ◌+◌, ◌*◌, ◌-◌, ◌%◌, ◌≤◌, ◌<◌, min, ◌≡◌, refl, Bool, true, false, not, cond, ◌&&◌, List, [], ◌∷◌, ◌++◌, length, get_or, drop, eqb, ltb}
+use Rattle.std.specs.Prelude.{ℕ, zero, suc, ◌+◌, ◌*◌, ◌%◌, ◌≤◌, ◌<◌, min, ◌≡◌, refl, Bool, true, false, not, cond, ◌&&◌, List, [], ◌∷◌, ◌++◌, length, get_or, drop, eqb, ltb, Err}
 use Rattle.std.proofs.Common.{sym, ap, ◌∙◌, arith, lt-ltb, le-ltb, ne_eqb, ltb-true, ltb-false, drop_of_length-le, length-drop, drop-cons, drop-drop, get_or-drop}
 use Rattle.value.specs.Operators.{pick}
-use Rattle.formula.specs.declared.Check.TheVariants.{Fault}
 use Rattle.formula.specs.Sheet.{row_count, lines_of}
 use Rattle.formula.proofs.SheetLaws.{line-feed}
 use Rattle.formula.specs.Tests.{lowest_from, lowest, is-passed, ended_at, laid_out}
@@ -98,7 +97,7 @@ rows-ended s (suc k) i e z =
     ∙ go (ended_at (lines_of s) (i + 1)) (rows-ended s k (i + 1) (omega arith) z)
   where
     go : (b : Bool) → ended 0 (drop (31 * (i + 1)) s) ≡ is-passed (lowest_from (i + 1 + 1) k (ended_at (lines_of s)))
-        → b && ended 0 (drop (31 * (i + 1)) s) ≡ is-passed (cond b (lowest_from (suc (i + 1)) k (ended_at (lines_of s))) (Fault (i + 1)))
+        → b && ended 0 (drop (31 * (i + 1)) s) ≡ is-passed (cond b (lowest_from (suc (i + 1)) k (ended_at (lines_of s))) (Err (i + 1)))
     go true q = let n : i + 1 + 1 ≡ suc (i + 1) = omega arith in rw n at q
     go false q = refl
 

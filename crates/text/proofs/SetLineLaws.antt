@@ -1,6 +1,6 @@
 -- Laws of specs/SetLineLaws.antt, and what only they need.
 use Prim.Native.Nat.{ℕ, zero, suc, ◌+◌, ◌*◌, ◌-◌, ◌≤◌, ◌<◌}
-use Rattle.std.specs.Prelude.{◌≡◌, Bool, true, false, cond, ◌&&◌, List, [], ◌∷◌, ◌++◌, length, get_or, take, drop, eqb, leb}
+use Rattle.std.specs.Prelude.{◌≡◌, Bool, true, false, cond, ◌&&◌, List, [], ◌∷◌, ◌++◌, length, get_or, take, drop, eqb, leb, Some, None}
 use Rattle.std.proofs.Math.Path.{refl}
 use Rattle.std.proofs.Common.{sym, ap, ◌∙◌, append_assoc, length-append, length-take, length-drop, take-take, drop-drop, take-add, take_at, get_or-take, get_or-drop, take-suc}
 use Rattle.std.proofs.Math.Option.{Option, some, none}
@@ -15,8 +15,7 @@ use Rattle.value.specs.Operators.{pick}
 use Rattle.value.specs.Bytes.{is_some, word_bytes, stored}
 use Rattle.value.specs.Kinds.{of_kind}
 use Rattle.value.proofs.Words.{stored-parts}
-use Rattle.formula.specs.declared.Field.{Field}
-use Rattle.formula.specs.declared.Field.TheVariants.{Number, Malformed}
+use Rattle.formula.specs.Results.{Field}
 use Rattle.formula.specs.Sheet.{digits_of, field_of, zero_of}
 use Rattle.formula.specs.Tests.{well_formed}
 use Rattle.text.specs.Fields.{positive, negative, behind_minus, patterned, behind_r, alone, field_value, word_by}
@@ -43,7 +42,7 @@ unfolding digits_of
 digits-no-feed v [] e = tt
 digits-no-feed v (b ∷ s) e = go (λ r. digits-no-feed (v * 10 + (b - 48)) s r) (leb 48 b) refl (leb b 57) refl e
   where
-    go : (well_formed (digits_of (v * 10 + (b - 48)) s) ≡ true → NoFeed s) → (x : Bool) → leb 48 b ≡ x → (y : Bool) → leb b 57 ≡ y → well_formed (cond (x && y) (digits_of (v * 10 + (b - 48)) s) Malformed) ≡ true → NoFeed (b ∷ s)
+    go : (well_formed (digits_of (v * 10 + (b - 48)) s) ≡ true → NoFeed s) → (x : Bool) → leb 48 b ≡ x → (y : Bool) → leb b 57 ≡ y → well_formed (cond (x && y) (digits_of (v * 10 + (b - 48)) s) None) ≡ true → NoFeed (b ∷ s)
     go later true p true q r = (ne_eqb b 10 (λ z. omega (arith, z, leb-true 48 b p)), later r)
     go later true p false q r = false-true r
     go later false p y q r = false-true r
@@ -59,7 +58,7 @@ field-no-feed [] e = tt
 field-no-feed (b ∷ s) e = go (λ r. field-no-feed s r) (eqb b 32) refl (eqb b 48) refl (leb 48 b) refl (leb b 57) refl e
   where
     go : (well_formed (field_of s) ≡ true → NoFeed s) → (w : Bool) → eqb b 32 ≡ w → (z : Bool) → eqb b 48 ≡ z → (x : Bool) → leb 48 b ≡ x → (y : Bool) → leb b 57 ≡ y
-        → well_formed (cond w (field_of s) (cond z (zero_of s) (cond (x && y) (digits_of (b - 48) s) Malformed))) ≡ true → NoFeed (b ∷ s)
+        → well_formed (cond w (field_of s) (cond z (zero_of s) (cond (x && y) (digits_of (b - 48) s) None))) ≡ true → NoFeed (b ∷ s)
     go later true o z p x q y r f = (ne_eqb b 10 (λ h. omega (arith, h, eqb-true b 32 o)), later f)
     go later false o true p x q y r f = (ne_eqb b 10 (λ h. omega (arith, h, eqb-true b 48 p)), zero-no-feed s f)
     go later false o false p true q true r f = (ne_eqb b 10 (λ h. omega (arith, h, leb-true 48 b q)), digits-no-feed (b - 48) s f)
@@ -68,14 +67,14 @@ field-no-feed (b ∷ s) e = go (λ r. field-no-feed s r) (eqb b 32) refl (eqb b 
 
 positive-formed : (f : Field) → is_some (positive f) ≡ true → well_formed f ≡ true
 unfolding positive
-positive-formed (Number n) e = refl
-positive-formed Malformed e = e
+positive-formed (Some n) e = refl
+positive-formed None e = e
 
 negative-formed : (f : Field) → is_some (negative f) ≡ true → well_formed f ≡ true
 unfolding negative
-negative-formed (Number zero) e = refl
-negative-formed (Number (suc n)) e = refl
-negative-formed Malformed e = e
+negative-formed (Some zero) e = refl
+negative-formed (Some (suc n)) e = refl
+negative-formed None e = e
 
 minus-no-feed : (s : List ℕ) → is_some (behind_minus s) ≡ true → NoFeed s
 unfolding behind_minus
@@ -89,8 +88,8 @@ minus-no-feed (b ∷ s) e = go (leb 49 b) refl (leb b 57) refl e
 
 patterned-formed : (f : Field) → is_some (patterned f) ≡ true → well_formed f ≡ true
 unfolding patterned
-patterned-formed (Number n) e = refl
-patterned-formed Malformed e = e
+patterned-formed (Some n) e = refl
+patterned-formed None e = e
 
 real-no-feed : (s : List ℕ) → is_some (behind_r s) ≡ true → NoFeed s
 unfolding behind_r

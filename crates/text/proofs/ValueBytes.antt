@@ -1,6 +1,6 @@
 -- The bytes that are read from a set line are values' bytes: each field's value is in the values' range, and its word stands in its place. So a set line is a
 -- set that passes 12 in push, with the same kinds. Assumes nothing.
-use Rattle.std.specs.Prelude.{ℕ, zero, suc, ◌+◌, ◌*◌, ◌-◌, ◌/◌, ◌%◌, ◌≤◌, ◌<◌, ◌≡◌, refl, Bool, true, false, cond, ◌&&◌, List, [], ◌∷◌, ◌++◌, pos, negsuc, eqb, leb, length, get_or, drop, replicate}
+use Rattle.std.specs.Prelude.{ℕ, zero, suc, ◌+◌, ◌*◌, ◌-◌, ◌/◌, ◌%◌, ◌≤◌, ◌<◌, ◌≡◌, refl, Bool, true, false, cond, ◌&&◌, List, [], ◌∷◌, ◌++◌, pos, negsuc, eqb, leb, length, get_or, drop, replicate, Some, None}
 use Rattle.std.proofs.Common.{sym, ap, subst, ◌∙◌, append-nil, arith, leb-true, length-append, length-drop, drop_of_length-le}
 use Rattle.std.proofs.Math.Option.{Option, some, none, some-injective, none-ne-some}
 use Rattle.std.proofs.Math.Decide.{ℕ_discrete}
@@ -13,8 +13,7 @@ use Rattle.value.specs.Operators.{pick}
 use Rattle.value.specs.Bytes.{InRange, is_some, value_of, float_of, word_at, stored}
 use Rattle.value.specs.Kinds.{of_kind}
 use Rattle.value.proofs.Words.{value-of-word, value-in-range, tag-four, word_lt, word-stored, word-before}
-use Rattle.formula.specs.declared.Field.{Field}
-use Rattle.formula.specs.declared.Field.TheVariants.{Number, Malformed}
+use Rattle.formula.specs.Results.{Field}
 use Rattle.formula.specs.Sheet.{digits_of, field_of}
 use Rattle.text.specs.Fields.{positive, negative, behind_minus, patterned, behind_r, alone, field_value, word_by}
 use Rattle.text.specs.SetLines.{field_at, fields_well, field_bytes}
@@ -23,22 +22,22 @@ use Rattle.text.proofs.SetLineLaws.{bytes-length, bytes-more, wells-at}
 -- ---- a field's value is in range
 positive-in-range : (f : Field) (v : Value) → positive f ≡ some v → InRange v
 unfolding positive
-positive-in-range (Number n) v e = go (leb n 2147483647) refl e
+positive-in-range (Some n) v e = go (leb n 2147483647) refl e
   where
     go : (b : Bool) → leb n 2147483647 ≡ b → pick b (some (Whole (pos n))) none ≡ some v → InRange v
     go true p q = subst InRange (some-injective (Whole (pos n)) v q) (omega (arith, leb-true n 2147483647 p))
     go false p q = absurd (none-ne-some v q)
-positive-in-range Malformed v e = absurd (none-ne-some v e)
+positive-in-range None v e = absurd (none-ne-some v e)
 
 negative-in-range : (f : Field) (v : Value) → negative f ≡ some v → InRange v
 unfolding negative
-negative-in-range (Number zero) v e = absurd (none-ne-some v e)
-negative-in-range (Number (suc n)) v e = go (leb n 2147483647) refl e
+negative-in-range (Some zero) v e = absurd (none-ne-some v e)
+negative-in-range (Some (suc n)) v e = go (leb n 2147483647) refl e
   where
     go : (b : Bool) → leb n 2147483647 ≡ b → pick b (some (Whole (negsuc n))) none ≡ some v → InRange v
     go true p q = subst InRange (some-injective (Whole (negsuc n)) v q) (omega (arith, leb-true n 2147483647 p))
     go false p q = absurd (none-ne-some v q)
-negative-in-range Malformed v e = absurd (none-ne-some v e)
+negative-in-range None v e = absurd (none-ne-some v e)
 
 minus-in-range : (s : List ℕ) (v : Value) → behind_minus s ≡ some v → InRange v
 unfolding behind_minus
@@ -51,11 +50,11 @@ minus-in-range (b ∷ s) v e = go (leb 49 b && leb b 57) e
 
 patterned-in-range : (f : Field) (v : Value) → patterned f ≡ some v → InRange v
 unfolding patterned
-patterned-in-range (Number n) v e =
+patterned-in-range (Some n) v e =
     let t : (4 + 256 * n) % 256 ≡ 4 = omega arith in
     let b : (4 + 256 * n) / 256 ≡ n = omega arith in
     value-in-range (4 + 256 * n) v (tag-four (4 + 256 * n) t ∙ ap float_of b ∙ e)
-patterned-in-range Malformed v e = absurd (none-ne-some v e)
+patterned-in-range None v e = absurd (none-ne-some v e)
 
 real-in-range : (s : List ℕ) (v : Value) → behind_r s ≡ some v → InRange v
 unfolding behind_r

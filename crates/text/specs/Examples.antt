@@ -1,8 +1,7 @@
 -- The worked example of document 01, "Program and readings", as text: the set lines of the lesser of two, of which document 02, Job 6, leaves three, and the
 -- four lines that it prints. Beside them the ends of the values' range, errs with a reason, floats, fields that are no value, and a refusal. They hold the definitions to the papers. Assumes nothing.
-use Rattle.std.specs.Prelude.{ℕ, zero, suc, ◌≡◌, refl, List, [], ◌∷◌, ◌++◌, map, length}
+use Rattle.std.specs.Prelude.{ℕ, zero, suc, List, [], ◌∷◌, ◌++◌, length}
 use Prim.Native.String.{String}
-use Rattle.std.specs.Float.Ieee.{of_bits, to_bits, fits}
 use Rattle.value.specs.Bytes.{word_of, word_bytes, word_at, value_of}
 use Rattle.examples.specs.Sheets.{bytes}
 use Rattle.text.specs.SetLines.{SetFile, sets, bad_line, sets_of}

@@ -2,28 +2,25 @@
 -- sheet, with "-" for negatives (no -0), or T, F, E"; document 02, Job 5: "An err now has a reason: Z zero divisor, V answer out of range, E all else",
 -- "Set and result fields may hold Z and V"; Job 9: "In files the field is R and directly after it the bit pattern in decimal without leading
 -- zeros, right-justified together." A number outside the values' range is a bad field. Assumes nothing.
-use Rattle.std.specs.Prelude.{ℕ, zero, suc, ◌+◌, ◌*◌, ◌-◌, Bool, true, false, cond, ◌&&◌, List, [], ◌∷◌, pos, negsuc, eqb, leb}
+use Rattle.std.specs.Prelude.{ℕ, zero, suc, ◌-◌, true, false, cond, ◌&&◌, List, [], ◌∷◌, pos, negsuc, eqb, leb, Some, None}
 use Rattle.std.proofs.Math.Option.{Option, some, none}
 use Rattle.value.specs.declared.Reason.TheVariants.{ZeroDivisor, OutOfRange, Other}
 use Rattle.value.specs.declared.Value.{Value}
 use Rattle.value.specs.declared.Value.TheVariants.{Whole, Truth, Err}
 use Rattle.value.specs.Operators.{pick}
 use Rattle.value.specs.Bytes.{word_of, float_of}
-use Rattle.formula.specs.declared.Field.{Field}
-use Rattle.formula.specs.declared.Field.TheVariants.{Number, Malformed}
+use Rattle.formula.specs.Results.{Field}
 use Rattle.formula.specs.Sheet.{digits_of, field_of}
-use Rattle.text.specs.declared.Digits.{Digits}
-use Rattle.text.specs.declared.Digits.TheVariants.{Count, Broken}
 
 -- "-2,147,483,648 to 2,147,483,647"
 unfoldable pub positive : Field → Option Value
-positive (Number n) = pick (leb n 2147483647) (some (Whole (pos n))) none
-positive Malformed = none
+positive (Some n) = pick (leb n 2147483647) (some (Whole (pos n))) none
+positive None = none
 
 unfoldable pub negative : Field → Option Value
-negative (Number zero) = none
-negative (Number (suc n)) = pick (leb n 2147483647) (some (Whole (negsuc n))) none
-negative Malformed = none
+negative (Some zero) = none
+negative (Some (suc n)) = pick (leb n 2147483647) (some (Whole (negsuc n))) none
+negative None = none
 
 -- The digits behind a "-": as in the sheet, and not 0.
 unfoldable pub behind_minus : List ℕ → Option Value
@@ -33,8 +30,8 @@ behind_minus (b ∷ s) = cond (leb 49 b && leb b 57) (negative (digits_of (b - 4
 
 -- "Patterns that are not finite are refused with 12": the number is that of a finite float's 32 bits.
 unfoldable pub patterned : Field → Option Value
-patterned (Number n) = float_of n
-patterned Malformed = none
+patterned (Some n) = float_of n
+patterned None = none
 
 -- The digits behind an R: "directly after it", as in the sheet.
 unfoldable pub behind_r : List ℕ → Option Value
@@ -65,8 +62,3 @@ field_value (b ∷ s) =
 abbrev pub word_by : Option Value → ℕ
 word_by (some v) = word_of v
 word_by none = 0
-
--- What the code reads digits into, as a field.
-abbrev pub as_field : Digits → Field
-as_field (Count n) = Number n
-as_field Broken = Malformed

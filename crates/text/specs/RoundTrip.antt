@@ -1,28 +1,21 @@
 -- What is printed is read back as itself (document 01, "Program and readings"): a number of a six-character field by the reading of the sheet, whose fields
 -- are written alike, a value of an 11-character field by the reading of set lines, and lines of results as a set file. Assumes nothing.
-use Prim.Native.Nat.{ℕ, zero, suc, ◌+◌, ◌*◌, ◌-◌, ◌/◌, ◌%◌, ◌^◌, ◌≤◌, ◌<◌}
-use Rattle.std.specs.Prelude.{◌≡◌, Bool, true, false, cond, pos, negsuc, Float, get_or, take, drop, replicate}
-use mathlib.Core.List.{List, [], ◌∷◌, ◌++◌, map, append_assoc, append-nil}
-use borrow.Author.Tests.{le-leb, eq-eqb, ne_eqb}
-use Rattle.std.specs.Float.{binary32}
-use Rattle.std.specs.Float.Ieee.{to_bits}
+use Prim.Native.Nat.{ℕ, zero, suc, ◌+◌, ◌*◌, ◌-◌, ◌^◌, ◌≤◌, ◌<◌}
+use Rattle.std.specs.Prelude.{◌≡◌, Bool, true, false, get_or, Some, None}
+use mathlib.Core.List.{List, [], ◌∷◌, ◌++◌}
 use Rattle.std.proofs.Math.ListN.{length}
-use Rattle.value.specs.declared.Reason.TheVariants.{ZeroDivisor, OutOfRange, Other}
 use Rattle.value.specs.declared.Value.{Value}
-use Rattle.value.specs.declared.Value.TheVariants.{Whole, Truth, Err, Real}
-use Rattle.value.specs.Operators.{is_real}
 use Rattle.value.specs.Senses.{err}
-use Rattle.value.specs.Kinds.{suits, kind_of_letter, of_kind}
-use Rattle.value.specs.Bytes.{InRange, word_of, value_of, float_of, word_bytes, bytes_of, word_at}
-use Rattle.formula.specs.declared.Field.{Field}
-use Rattle.formula.specs.declared.Field.TheVariants.{Number, Malformed}
-use Rattle.formula.specs.Sheet.{is_digit, digits_of, zero_of, field_of}
+use Rattle.value.specs.Kinds.{suits, kind_of_letter}
+use Rattle.value.specs.Bytes.{InRange, bytes_of}
+use Rattle.formula.specs.Results.{Field}
+use Rattle.formula.specs.Sheet.{digits_of}
 use Rattle.text.specs.Printed.{led, shown, value_field}
 
 -- ---- one more digit behind a number
 abbrev pub onward : ℕ → Field → Field
-onward d (Number n) = Number (n * 10 + d)
-onward d Malformed = Malformed
+onward d (Some n) = Some (n * 10 + d)
+onward d None = None
 
 -- ---- a printed number: what stands in front, a first digit that is not 0, and the rest
 -- The numbers that fit w characters; where the character before the number must stand, it is one of them.
@@ -43,7 +36,7 @@ pub record Written (stands : Bool) (before w n : ℕ) : Type 0 where
   pub lead : Led stands ahead
   pub low : 49 ≤ first
   pub high : first ≤ 57
-  pub number : digits_of (first - 48) rest ≡ Number n
+  pub number : digits_of (first - 48) rest ≡ Some n
 
 -- ---- a line of values
 -- The values' fields, and their bytes as push takes them.

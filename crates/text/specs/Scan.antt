@@ -1,6 +1,6 @@
 -- Test 1 of a sheet (document 01: "empty, not in 31-byte rows, or a row without its line feed") over a file that is read part by part: what is kept
 -- of the bytes seen so far. Only 200 rows, 6,200 bytes, can pass test 2, so more than those need not be kept. Assumes nothing.
-use Rattle.std.specs.Prelude.{ℕ, zero, suc, ◌+◌, Bool, true, false, ◌&&◌, not, List, [], ◌∷◌, eqb, ltb}
+use Rattle.std.specs.Prelude.{ℕ, ◌+◌, Bool, true, ◌&&◌, not, List, [], ◌∷◌, eqb, ltb}
 use Rattle.value.specs.Operators.{pick}
 use Rattle.text.specs.declared.Seen.{Seen}
 

@@ -1,10 +1,6 @@
 -- Test 1 part by part: what is kept after a part more is what is kept of all bytes, and tells test 1 of all of them. Assumes nothing.
-use Rattle.std.specs.Prelude.{ℕ, zero, suc, ◌+◌, ◌*◌, ◌-◌, ◌/◌, ◌%◌, ◌≤◌, ◌<◌, min, ◌≡◌, refl, Bool, true, false, not, cond, ◌&&◌, List, [], ◌∷◌, ◌++◌, length, get_or, take, drop, eqb, ltb}
+use Rattle.std.specs.Prelude.{ℕ, ◌+◌, Bool, true, ◌&&◌, List, [], ◌∷◌, eqb, ltb}
 use Rattle.value.specs.Operators.{pick}
-use Rattle.formula.specs.declared.Check.{Check}
-use Rattle.formula.specs.declared.Check.TheVariants.{Fault}
-use Rattle.formula.specs.Sheet.{row_count, lines_of}
-use Rattle.formula.specs.Tests.{lowest_from, lowest, is-passed, ended_at, laid_out, few_rows}
 
 -- Whether each row that is whole ends in a line feed, from a place in a row on.
 unfoldable pub ended : ℕ → List ℕ → Bool

@@ -1,21 +1,9 @@
 -- Laws of set lines: a line of the file that is a set has the fixed length of one, so a pass that steps by that length finds the same lines as the
 -- definition, and the same lowest line at fault. Assumes nothing.
-use Prim.Native.Nat.{ℕ, zero, suc, ◌+◌, ◌*◌, ◌-◌, ◌≤◌, ◌<◌}
-use Rattle.std.specs.Prelude.{◌≡◌, Bool, true, false, cond, ◌&&◌, List, [], ◌∷◌, ◌++◌, length, get_or, take, drop, eqb, leb}
-use native.Mathlib.Omega.{arith}
-use borrow.Author.Tests.{eqb-true, eqb-false, leb-true, leb-false, eq-eqb, ne_eqb, le-leb, lt-leb}
-use Rattle.value.specs.declared.Reason.TheVariants.{ZeroDivisor, OutOfRange, Other}
-use Rattle.value.specs.declared.Value.{Value}
-use Rattle.value.specs.declared.Value.TheVariants.{Truth, Err}
-use Rattle.value.specs.Operators.{pick}
-use Rattle.value.specs.Bytes.{is_some, word_of, word_bytes, stored}
+use Prim.Native.Nat.{ℕ, ◌+◌, ◌≤◌}
+use Rattle.std.specs.Prelude.{◌≡◌, Bool, false, List, [], ◌∷◌, length, get_or, take, eqb, Result, Ok, Err}
+use Rattle.value.specs.Bytes.{is_some}
 use Rattle.value.specs.Kinds.{of_kind}
-use Rattle.formula.specs.declared.Field.{Field}
-use Rattle.formula.specs.declared.Field.TheVariants.{Number, Malformed}
-use Rattle.formula.specs.Sheet.{digits_of, field_of, zero_of, is_digit}
-use Rattle.formula.specs.Tests.{well_formed}
-use Rattle.text.specs.declared.Lines.{Lines}
-use Rattle.text.specs.declared.Lines.TheVariants.{Sets as counted, Bad as bad}
 use Rattle.text.specs.Fields.{field_value}
 use Rattle.text.specs.SetLines.{field_at, SetFile, sets as setsIn, bad_line}
 
@@ -35,9 +23,9 @@ First r [] = Unit
 First r (l ∷ ls) = take (length l) r ≡ l
 
 -- ---- a pass that has read n sets
-abbrev pub more_than : ℕ → SetFile → Lines
-more_than n (setsIn ss) = counted (n + length ss)
-more_than n (bad_line i) = bad i
+abbrev pub more_than : ℕ → SetFile → Result ℕ ℕ
+more_than n (setsIn ss) = Ok (n + length ss)
+more_than n (bad_line i) = Err i
 
 abbrev pub Few : SetFile → ℕ → Type 0
 Few (setsIn ss) n = length ss ≤ n

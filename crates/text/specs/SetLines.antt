@@ -2,14 +2,11 @@
 -- set with another number of values than inputs, a bad value field, a file line unended", with the lowest line; document 02, Job 6: "Sets with another
 -- kind are refused with 12". Bytes behind the last line feed are an unended line. A set is the bytes that push takes, five a value. The kinds are the
 -- letters of the kinds line, one an input. Assumes nothing.
-use Rattle.std.specs.Prelude.{ℕ, zero, suc, ◌+◌, ◌*◌, Bool, true, false, cond, ◌&&◌, List, [], ◌∷◌, ◌++◌, length, get_or, take, drop, eqb}
-use Rattle.std.proofs.Math.Option.{Option, some, none}
+use Rattle.std.specs.Prelude.{ℕ, zero, suc, ◌+◌, ◌*◌, Bool, true, cond, ◌&&◌, List, [], ◌∷◌, ◌++◌, length, get_or, take, drop, eqb, Result, Ok, Err}
 use Rattle.std.proofs.Math.Seq.{slice}
 use Rattle.value.specs.Operators.{pick}
 use Rattle.value.specs.Bytes.{is_some, word_bytes}
 use Rattle.value.specs.Kinds.{of_kind}
-use Rattle.text.specs.declared.Lines.{Lines}
-use Rattle.text.specs.declared.Lines.TheVariants.{Sets as counted, Bad as bad}
 use Rattle.text.specs.Fields.{field_value, word_by}
 
 -- The byte b in front of the lines of what follows it.
@@ -68,6 +65,6 @@ unfolding sets_from lines_of
 sets_of kinds s = sets_from kinds 1 (lines_of s)
 
 -- The code's answer: how many sets, or the lowest line at fault.
-abbrev pub count_of : SetFile → Lines
-count_of (sets ss) = counted (length ss)
-count_of (bad_line i) = bad i
+abbrev pub count_of : SetFile → Result ℕ ℕ
+count_of (sets ss) = Ok (length ss)
+count_of (bad_line i) = Err i

@@ -8,6 +8,9 @@ pub const VALUE_FIELD: usize = 11;
 
 pub const VALUE_BYTES: usize = 5;
 
+// How many patterns 32 bits have, which a number below 0 is added to in two's complement.
+pub const PATTERNS: u64 = 1 << 32;
+
 // "six-character fields"
 pub const NUMBER_FIELD: usize = 6;
 
@@ -30,20 +33,6 @@ pub const COUNTED: usize = 6201;
 
 // The place of a row's line feed.
 pub const LAST_COLUMN: usize = 30;
-
-// Digits read so far, or none.
-#[derive(Clone, Copy)]
-pub enum Digits {
-    Count(u64),
-    Broken,
-}
-
-// A set file: how many sets it has, or the lowest line at fault.
-#[derive(Clone, Copy)]
-pub enum Lines {
-    Sets(usize),
-    Bad(usize),
-}
 
 // What is kept of the bytes of a sheet seen so far: their number, up to 6,201, the place in the row, and whether each row
 // that is whole has its line feed.

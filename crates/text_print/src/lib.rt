@@ -6,13 +6,11 @@ ghost use Rattle.std.proofs.lemmas.List.Edits.{sets};
 ghost use Rattle.value.specs.Bytes.{whole_of, truth_of};
 ghost use Rattle.text.specs.Printed.{led as ledOf, shown, number_field, letter_field, option_field, word_field, result_line, head_line, refusal_line};
 
-use text::{NUMBER_FIELD, VALUE_BYTES, VALUE_FIELD};
+use text::{NUMBER_FIELD, PATTERNS, VALUE_BYTES, VALUE_FIELD};
 use value::bytes::{OUT_OF_RANGE, REAL_LETTER, ZERO_DIVISOR};
 
-// The numbers of 32 bits in two's complement: those from 2^31 on stand for the number less 2^32.
-const FIRST_NEGATIVE: u64 = 2147483648;
-
-const WRAP: u64 = 4294967296;
+// The numbers of 32 bits in two's complement: those from here on stand for the number less 2^32.
+const FIRST_NEGATIVE: u64 = 1 << 31;
 
 // Where a letter stands in a value's field, the third number in the first line, and the line feeds of that line and of a refusal's.
 const LETTER_AT: usize = 10;
@@ -30,24 +28,13 @@ const TRUTH: u64 = 2;
 
 const REAL: u64 = 4;
 
-fn spaces(part: &mut [u8])
-    ensures { part.new ≡ replicate (length part.old) 32 }
-{
-    let mut i = 0;
-    while i < part.len() {
-        part[i] = b' ';
-        i += 1;
-    }
-}
-
 // Spaces, and last the character before a number.
 fn lead(part: &mut [u8], before: u8)
     ensures { part.new ≡ ledOf before (length part.old) }
 {
-    spaces(part);
-    if 0 < part.len() {
-        let last = part.len() - 1;
-        part[last] = before;
+    part.fill(b' ');
+    if let Some(last) = part.last_mut() {
+        *last = before;
     }
 }
 
@@ -55,10 +42,8 @@ fn lead(part: &mut [u8], before: u8)
 fn show(field: &mut [u8], before: u8, n: u64)
     ensures { field.new ≡ shown before (length field.old) n }
 {
-    let mut i = field.len();
     let mut rest = n;
-    while 0 < i {
-        i -= 1;
+    for i in (0..field.len()).rev() {
         field[i] = b'0' + (rest % 10) as u8;
         if rest < 10 {
             lead(&mut field[..i], before);
@@ -74,7 +59,7 @@ pub fn put_number(out: &mut [u8], at: usize, n: u32)
     ensures { out.new ≡ sets out.old at (number_field n) }
 {
     let end = at + NUMBER_FIELD;
-    show(&mut out[at..end], b' ', n as u64);
+    show(&mut out[at..end], b' ', u64::from(n));
 }
 
 // A letter in eleven characters.
@@ -83,7 +68,7 @@ fn put_letter(out: &mut [u8], at: usize, letter: u8)
     ensures { out.new ≡ sets out.old at (letter_field letter) }
 {
     let end = at + LETTER_AT;
-    spaces(&mut out[at..end]);
+    out[at..end].fill(b' ');
     out[end] = letter;
 }
 
@@ -95,28 +80,22 @@ fn put_whole(out: &mut [u8], at: usize, bits: u64)
     let end = at + VALUE_FIELD;
     if bits < FIRST_NEGATIVE {
         show(&mut out[at..end], b' ', bits);
-        return;
+    } else if bits < PATTERNS {
+        show(&mut out[at..end], b'-', PATTERNS - bits);
+    } else {
+        put_letter(out, at, b'E');
     }
-    if bits < WRAP {
-        show(&mut out[at..end], b'-', WRAP - bits);
-        return;
-    }
-    put_letter(out, at, b'E');
 }
 
 fn put_truth(out: &mut [u8], at: usize, bits: u64)
     requires { at + 11 ≤ length out.old }
     ensures { out.new ≡ sets out.old at (option_field (truth_of bits)) }
 {
-    if bits == 0 {
-        put_letter(out, at, b'F');
-        return;
+    match bits {
+        0 => put_letter(out, at, b'F'),
+        1 => put_letter(out, at, b'T'),
+        _ => put_letter(out, at, b'E'),
     }
-    if bits == 1 {
-        put_letter(out, at, b'T');
-        return;
-    }
-    put_letter(out, at, b'E');
 }
 
 // The value of a float's word: its pattern.
@@ -127,9 +106,9 @@ fn put_real(out: &mut [u8], at: usize, word: u64)
     if value::bytes::is_value(word) {
         let end = at + VALUE_FIELD;
         show(&mut out[at..end], REAL_LETTER, word / 256);
-        return;
+    } else {
+        put_letter(out, at, b'E');
     }
-    put_letter(out, at, b'E');
 }
 
 // The value of a word in eleven characters.
@@ -137,30 +116,18 @@ pub fn put_value(out: &mut [u8], at: usize, word: u64)
     requires { at + 11 ≤ length out.old }
     ensures { out.new ≡ sets out.old at (word_field word) }
 {
-    let tag = word % 256;
     let bits = word / 256;
-    if tag == WHOLE {
-        put_whole(out, at, bits);
-        return;
+    match word % 256 {
+        WHOLE => put_whole(out, at, bits),
+        TRUTH => put_truth(out, at, bits),
+        REAL => put_real(out, at, word),
+        _ => match word {
+            ZERO_DIVISOR => put_letter(out, at, b'Z'),
+            OUT_OF_RANGE => put_letter(out, at, b'V'),
+            // the plain err, or no value
+            _ => put_letter(out, at, b'E'),
+        },
     }
-    if tag == TRUTH {
-        put_truth(out, at, bits);
-        return;
-    }
-    if tag == REAL {
-        put_real(out, at, word);
-        return;
-    }
-    if word == ZERO_DIVISOR {
-        put_letter(out, at, b'Z');
-        return;
-    }
-    if word == OUT_OF_RANGE {
-        put_letter(out, at, b'V');
-        return;
-    }
-    // the plain err, or no value
-    put_letter(out, at, b'E');
 }
 
 // The first k values of a result set, and a line feed.
@@ -168,11 +135,9 @@ pub fn put_results(out: &mut [u8], at: usize, k: usize, results: &[u8])
     requires { (k ≤ 16) × (5 * k ≤ length results.now) × (at + 11 * k + 1 ≤ length out.old) }
     ensures { out.new ≡ sets out.old at (result_line k results.now) }
 {
-    let mut j = 0;
-    while j < k {
+    for j in 0..k {
         let word = value::bytes::load(results, VALUE_BYTES * j);
         put_value(out, at + VALUE_FIELD * j, word);
-        j += 1;
     }
     out[at + VALUE_FIELD * k] = b'\n';
 }

@@ -1,6 +1,5 @@
 // Test 1 of a sheet over a file that is read part by part (text/specs/Scan; document 01, refusal 1).
-ghost use Rattle.std.specs.Prelude.{◌≡◌, Bool, ◌&&◌, ◌+◌, eqb, ltb};
-ghost use Rattle.value.specs.Operators.{pick};
+ghost use Rattle.std.specs.Prelude.{◌≡◌};
 ghost use Rattle.text.specs.Scan.{unseen, after as after_of, scanned, seen_laid_out};
 
 use text::{COUNTED, LAST_COLUMN, Seen};
@@ -16,35 +15,24 @@ pub fn none_seen() -> Seen
     }
 }
 
-fn one_more(length: usize) -> usize
-    ensures { result ≡ pick (ltb length 6201) (length + 1) length }
-{
-    if length < COUNTED { length + 1 } else { length }
-}
-
 // One byte more.
 fn after(x: Seen, b: u8) -> Seen
     ensures { result ≡ after_of x b }
 {
-    let length = one_more(x.length);
+    let length = x.length + usize::from(x.length < COUNTED);
     if x.column < LAST_COLUMN {
-        return Seen {
+        Seen {
             length,
             column: x.column + 1,
             ended: x.ended,
-        };
+        }
+    } else {
+        Seen {
+            length,
+            column: 0,
+            ended: x.ended && b == b'\n',
+        }
     }
-    Seen {
-        length,
-        column: 0,
-        ended: row_ended(x.ended, b),
-    }
-}
-
-fn row_ended(before: bool, b: u8) -> bool
-    ensures { result ≡ (before && eqb b 10) }
-{
-    if before { b == b'\n' } else { false }
 }
 
 // A part more.
@@ -52,10 +40,8 @@ pub fn scan(x: Seen, part: &[u8]) -> Seen
     ensures { result ≡ scanned x part.now }
 {
     let mut y = x;
-    let mut i = 0;
-    while i < part.len() {
-        y = after(y, part[i]);
-        i += 1;
+    for &b in part {
+        y = after(y, b);
     }
     y
 }
@@ -64,11 +50,5 @@ pub fn scan(x: Seen, part: &[u8]) -> Seen
 pub fn seen_laid_out(x: Seen) -> bool
     ensures { result ≡ seen_laid_out x }
 {
-    if x.length == 0 {
-        return false;
-    }
-    if x.column != 0 {
-        return false;
-    }
-    x.ended
+    x.length != 0 && x.column == 0 && x.ended
 }

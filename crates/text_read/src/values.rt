@@ -4,9 +4,9 @@ ghost use Rattle.std.specs.Prelude.{◌≡◌, Bool, ◌+◌, ◌-◌, ◌≤◌
 ghost use Rattle.std.proofs.Math.Seq.{slice};
 ghost use Rattle.value.specs.Operators.{pick};
 ghost use Rattle.formula.specs.Sheet.{digits_of, field_of};
-ghost use Rattle.text.specs.Fields.{as_field, word_by, positive as positiveOf, negative as negativeOf, behind_minus, patterned, behind_r, field_value};
+ghost use Rattle.text.specs.Fields.{word_by, positive as positiveOf, negative as negativeOf, behind_minus, patterned, behind_r, field_value};
 
-use text::{Digits, VALUE_FIELD};
+use text::{PATTERNS, VALUE_FIELD};
 use value::bytes::{ERR, FALSE, OUT_OF_RANGE, REAL_LETTER, TRUE, ZERO_DIVISOR, token_word};
 
 // "-2,147,483,648 to 2,147,483,647", as distances from 0.
@@ -14,72 +14,52 @@ const GREATEST: u64 = 2147483647;
 
 const LEAST: u64 = 2147483648;
 
-// How many patterns 32 bits have, which a number below 0 is added to in two's complement, and the tag of a float's word.
-const PATTERNS: u64 = 4294967296;
-
+// The tag of a float's word.
 const REAL: u64 = 4;
 
-// The word of no value; those of the letters' values are the byte form's own.
-const NO_VALUE: u64 = 0;
+// The byte form's word of no value, which no kind takes: an Option around words would be a second way to say it.
+const NO_VALUE: u64 = value::bytes::NONE;
 
 fn digit(b: u8) -> u64
     requires { 48 ≤ b }
     ensures { result ≡ b - 48 }
 {
-    (b - b'0') as u64
+    u64::from(b - b'0')
 }
 
-// The number `first`, then the digits of s from `from` to `end`.
-fn digits(s: &[u8], from: usize, end: usize, first: u64) -> Digits
+// The number `first`, then the digits of s from `from` to `end`. The sheet's fields have a twin in 32 bits: over both types it would
+// need traits for sums and products, which is no plainer.
+fn digits(s: &[u8], from: usize, end: usize, first: u64) -> Option<u64>
     requires { (from ≤ end) × (end ≤ length s.now) × (end - from ≤ 10) × (first < 10) }
-    ensures { as_field result ≡ digits_of first (slice from end s.now) }
+    ensures { result ≡ digits_of first (slice from end s.now) }
 {
     let mut v = first;
-    let mut i = from;
-    while i < end {
-        let b = s[i];
-        if b < b'0' {
-            return Digits::Broken;
-        }
-        if b'9' < b {
-            return Digits::Broken;
+    for &b in &s[from..end] {
+        if !b.is_ascii_digit() {
+            return None;
         }
         v = v * 10 + digit(b);
-        i += 1;
     }
-    Digits::Count(v)
+    Some(v)
 }
 
 // The word of a number from 0 on.
-fn positive(d: Digits) -> u64
-    ensures { result ≡ word_by (positiveOf (as_field d)) }
+fn positive(d: Option<u64>) -> u64
+    ensures { result ≡ word_by (positiveOf d) }
 {
     match d {
-        Digits::Count(n) => {
-            if n <= GREATEST {
-                return 1 + 256 * n;
-            }
-            NO_VALUE
-        }
-        Digits::Broken => NO_VALUE,
+        Some(n) if n <= GREATEST => 1 + 256 * n,
+        _ => NO_VALUE,
     }
 }
 
 // The word of a number below 0, by its distance from 0: two's complement in 32 bits.
-fn negative(d: Digits) -> u64
-    ensures { result ≡ word_by (negativeOf (as_field d)) }
+fn negative(d: Option<u64>) -> u64
+    ensures { result ≡ word_by (negativeOf d) }
 {
     match d {
-        Digits::Count(n) => {
-            if n == 0 {
-                return NO_VALUE;
-            }
-            if n <= LEAST {
-                return 1 + 256 * (PATTERNS - n);
-            }
-            NO_VALUE
-        }
-        Digits::Broken => NO_VALUE,
+        Some(n) if n != 0 && n <= LEAST => 1 + 256 * (PATTERNS - n),
+        _ => NO_VALUE,
     }
 }
 
@@ -90,60 +70,39 @@ fn behind_minus(s: &[u8], i: usize, end: usize) -> u64
     if i == end {
         return NO_VALUE;
     }
-    let b = s[i];
-    if b < b'1' {
-        return NO_VALUE;
+    match s[i] {
+        b @ b'1'..=b'9' => negative(digits(s, i + 1, end, digit(b))),
+        _ => NO_VALUE,
     }
-    if b'9' < b {
-        return NO_VALUE;
-    }
-    negative(digits(s, i + 1, end, digit(b)))
 }
 
 // The word of the float of a pattern.
-fn real(d: Digits) -> u64
-    ensures { result ≡ word_by (patterned (as_field d)) }
+fn real(d: Option<u64>) -> u64
+    ensures { result ≡ word_by (patterned d) }
 {
     match d {
-        Digits::Count(n) => {
-            if n < PATTERNS {
-                return token_word(REAL + 256 * n);
-            }
-            NO_VALUE
-        }
-        Digits::Broken => NO_VALUE,
+        Some(n) if n < PATTERNS => token_word(REAL + 256 * n),
+        _ => NO_VALUE,
     }
 }
 
 // A number as in the sheet, behind its spaces.
-fn number(s: &[u8], i: usize, end: usize) -> Digits
+fn number(s: &[u8], i: usize, end: usize) -> Option<u64>
     requires { (i < end) × (end ≤ length s.now) × (end - i ≤ 11) × (get_or s.now i 0 ≡ 32 → ⊥) }
-    ensures { as_field result ≡ field_of (slice i end s.now) }
+    ensures { result ≡ field_of (slice i end s.now) }
 {
-    let b = s[i];
-    if b == b'0' {
-        if i + 1 == end {
-            return Digits::Count(0);
-        }
-        return Digits::Broken;
+    match s[i] {
+        b'0' if i + 1 == end => Some(0),
+        b @ b'1'..=b'9' => digits(s, i + 1, end, digit(b)),
+        _ => None,
     }
-    if b < b'0' {
-        return Digits::Broken;
-    }
-    if b'9' < b {
-        return Digits::Broken;
-    }
-    digits(s, i + 1, end, digit(b))
 }
 
 fn behind_r(s: &[u8], i: usize, end: usize) -> u64
     requires { (i ≤ end) × (end ≤ length s.now) × (end - i ≤ 10) }
     ensures { result ≡ word_by (behind_r (slice i end s.now)) }
 {
-    if i == end {
-        return NO_VALUE;
-    }
-    if s[i] == b' ' {
+    if i == end || s[i] == b' ' {
         return NO_VALUE;
     }
     real(number(s, i, end))
@@ -160,29 +119,16 @@ fn unspaced(s: &[u8], i: usize, end: usize) -> u64
     requires { (i < end) × (end ≤ length s.now) × (end - i ≤ 11) × (get_or s.now i 0 ≡ 32 → ⊥) }
     ensures { result ≡ word_by (field_value (slice i end s.now)) }
 {
-    let b = s[i];
-    if b == b'T' {
-        return alone(i + 1, end, TRUE);
+    match s[i] {
+        b'T' => alone(i + 1, end, TRUE),
+        b'F' => alone(i + 1, end, FALSE),
+        b'E' => alone(i + 1, end, ERR),
+        b'Z' => alone(i + 1, end, ZERO_DIVISOR),
+        b'V' => alone(i + 1, end, OUT_OF_RANGE),
+        REAL_LETTER => behind_r(s, i + 1, end),
+        b'-' => behind_minus(s, i + 1, end),
+        _ => positive(number(s, i, end)),
     }
-    if b == b'F' {
-        return alone(i + 1, end, FALSE);
-    }
-    if b == b'E' {
-        return alone(i + 1, end, ERR);
-    }
-    if b == b'Z' {
-        return alone(i + 1, end, ZERO_DIVISOR);
-    }
-    if b == b'V' {
-        return alone(i + 1, end, OUT_OF_RANGE);
-    }
-    if b == REAL_LETTER {
-        return behind_r(s, i + 1, end);
-    }
-    if b == b'-' {
-        return behind_minus(s, i + 1, end);
-    }
-    positive(number(s, i, end))
 }
 
 // The field whose eleven characters start at `at`.
@@ -191,12 +137,8 @@ pub fn word_in(s: &[u8], at: usize) -> u64
     ensures { result ≡ word_by (field_value (slice at (at + 11) s.now)) }
 {
     let end = at + VALUE_FIELD;
-    let mut i = at;
-    while i < end {
-        if s[i] != b' ' {
-            return unspaced(s, i, end);
-        }
-        i += 1;
+    match s[at..end].iter().position(|b| *b != b' ') {
+        Some(k) => unspaced(s, at + k, end),
+        None => NO_VALUE,
     }
-    NO_VALUE
 }

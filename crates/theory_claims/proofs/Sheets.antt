@@ -1,10 +1,9 @@
 -- Laws of specs/Sheets.antt, and what only they need.
-use Rattle.std.specs.Prelude.{ℕ, ◌≤◌, ◌≡◌}
+use Rattle.std.specs.Prelude.{ℕ, ◌≤◌, ◌≡◌, Ok}
 use mathlib.Core.List.{List, [], ◌∷◌}
 use Rattle.std.proofs.Common.{arith}
 use Rattle.value.specs.declared.Value.{Value}
 use Rattle.names.specs.Names.{below}
-use Rattle.formula.specs.declared.Check.TheVariants.{Passed}
 use Rattle.formula.specs.Sheet.{row_count, fields_of}
 use Rattle.formula.specs.Tree.{Exp, formula_of}
 use Rattle.formula.specs.Free.{free_e}
@@ -38,7 +37,7 @@ module _ (s line : List ℕ) (h : Admissible s) where
   sets-of-kinds [] a = tt
   sets-of-kinds (v ∷ vs) a = ((λ k e l. a.0 (below (free_e x) k)), sets-of-kinds vs a.1)
 
-  module _ (passed : kind_check kinded (fields_of s) (row_count s) kinds ≡ Passed) where
+  module _ (passed : kind_check kinded (fields_of s) (row_count s) kinds ≡ Ok tt) where
     pub sheet-claimed : (K : Claims) × Claimed x kinds K
     sheet-claimed = made-claimed x kinds (accepted-admitted s h) ((sheet-passes-iff s line [] h).0 passed) (within (made_of x).links (accepted-graph s h).1)
       where

@@ -4,7 +4,6 @@ use Rattle.std.specs.Prelude.{ℕ, ◌≤◌, ◌≡◌}
 use mathlib.Core.List.{List, [], ◌∷◌}
 use Rattle.value.specs.declared.Value.{Value}
 use Rattle.names.specs.Names.{below}
-use Rattle.formula.specs.declared.Check.TheVariants.{Passed}
 use Rattle.formula.specs.Sheet.{row_count, fields_of}
 use Rattle.formula.specs.Tree.{Exp, formula_of}
 use Rattle.formula.specs.Free.{free_e}

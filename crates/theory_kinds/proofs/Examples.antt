@@ -1,5 +1,5 @@
 -- Laws of specs/Examples.antt, and what only they need.
-use Rattle.std.specs.Prelude.{ℕ, zero, suc, ◌≡◌, refl, true, false, [], ◌∷◌}
+use Rattle.std.specs.Prelude.{ℕ, zero, suc, ◌≡◌, refl, true, false, [], ◌∷◌, Ok, Err}
 use Rattle.std.proofs.Math.Option.{some, none}
 use Rattle.std.specs.Float.Ieee.{fits, mul, lt, of_bits}
 use Rattle.value.specs.declared.Value.TheVariants.{Truth}
@@ -7,8 +7,6 @@ use Rattle.value.specs.declared.ValueKind.TheVariants.{Whole as whole-kind}
 use Rattle.value.specs.Senses.{err}
 use Rattle.value.specs.Constants.{thousandths}
 use Rattle.examples.specs.Sheets.{bytes, lesser, factorial}
-use Rattle.formula.specs.declared.Check.TheVariants.{Passed, Fault}
-use Rattle.formula.specs.declared.Verdict.TheVariants.{Passed as passed}
 use Rattle.formula.specs.Tree.{identifier, constant, pair, operator, if_e, formula_of}
 use Rattle.formula.specs.Free.{free_e}
 use Rattle.formula.specs.Tests.{verdict_of}
@@ -21,41 +19,41 @@ use Rattle.theory_kinds.specs.Inputs.{Set-suits}
 use Rattle.theory_kinds.proofs.Inputs.{sheet-kinds-hold}
 use Rattle.theory_kinds.specs.Examples.{checked, number_first, truth_first, number_round, number_returned, truth_returned, number_tested, strict, lesser_of_two, number, turning, faults, halved, number_added, float_added, remainder_taken, float}
 
-lesser-passes : checked lesser "WW\n" ≡ Passed
+lesser-passes : checked lesser "WW\n" ≡ Ok tt
 unfolding kind_check kinded input_kinds free_e formula_of bytes lesser
 lesser-passes = refl
 
 -- The less, row 4, gets a truth; row 7, whose arms disagree, is at fault too.
-lesser-fault : checked lesser "WT\n" ≡ Fault 4
+lesser-fault : checked lesser "WT\n" ≡ Err 4
 unfolding kind_check kinded input_kinds free_e formula_of bytes lesser
 lesser-fault = refl
 
 -- A formula with a loop whose rounds agree.
-factorial-passes : checked factorial "W\n" ≡ Passed
+factorial-passes : checked factorial "W\n" ≡ Ok tt
 unfolding kind_check kinded input_kinds free_e formula_of bytes factorial
 factorial-passes = refl
 
-number-first : checked number_first "\n" ≡ Fault 2
+number-first : checked number_first "\n" ≡ Err 2
 unfolding kind_check kinded input_kinds free_e formula_of bytes number_first
 number-first = refl
 
-truth-first : checked truth_first "\n" ≡ Fault 6
+truth-first : checked truth_first "\n" ≡ Err 6
 unfolding kind_check kinded input_kinds free_e formula_of bytes truth_first
 truth-first = refl
 
-number-round : checked number_round "\n" ≡ Fault 8
+number-round : checked number_round "\n" ≡ Err 8
 unfolding kind_check kinded input_kinds free_e formula_of bytes number_round
 number-round = refl
 
-number-returned : checked number_returned "\n" ≡ Fault 2
+number-returned : checked number_returned "\n" ≡ Err 2
 unfolding kind_check kinded input_kinds free_e formula_of bytes number_returned
 number-returned = refl
 
-truth-returned : checked truth_returned "\n" ≡ Fault 10
+truth-returned : checked truth_returned "\n" ≡ Err 10
 unfolding kind_check kinded input_kinds free_e formula_of bytes truth_returned
 truth-returned = refl
 
-number-tested : checked number_tested "W\n" ≡ Fault 4
+number-tested : checked number_tested "W\n" ≡ Err 4
 unfolding kind_check kinded input_kinds free_e formula_of bytes number_tested
 number-tested = refl
 
@@ -103,7 +101,7 @@ lesser-set-suits zero = refl
 lesser-set-suits (suc zero) = refl
 lesser-set-suits (suc (suc i)) = refl
 
-lesser-verdict : verdict_of (bytes lesser) (bytes "WW\n") ≡ passed
+lesser-verdict : verdict_of (bytes lesser) (bytes "WW\n") ≡ Ok tt
 unfolding verdict_of bytes lesser
 lesser-verdict = refl
 
@@ -138,7 +136,7 @@ second-round-stops : strict turning (number 1 ∷ []) 2 ≡ none
 unfolding strict_e inputs_hold free_e
 second-round-stops = refl
 
-halved-passes : checked halved "R\n" ≡ Passed
+halved-passes : checked halved "R\n" ≡ Ok tt
 unfolding kind_check kinded input_kinds free_e formula_of bytes halved
 halved-passes = refl
 
@@ -160,7 +158,7 @@ remainder-of-floats : faults remainder_taken "RR\n" ≡ 4 ∷ []
 unfolding faults_in kinded input_kinds free_e formula_of bytes remainder_taken
 remainder-of-floats = refl
 
-remainder-of-numbers : checked remainder_taken "WW\n" ≡ Passed
+remainder-of-numbers : checked remainder_taken "WW\n" ≡ Ok tt
 unfolding kind_check kinded input_kinds free_e formula_of bytes remainder_taken
 remainder-of-numbers = refl
 

@@ -1,5 +1,5 @@
 -- Laws of specs/Inputs.antt, and what only they need.
-use Rattle.std.specs.Prelude.{ℕ, zero, suc, ◌≤◌, ◌<◌, ◌≡◌, refl, ◌↔◌, true, List, [], ◌∷◌, length, get_or, take}
+use Rattle.std.specs.Prelude.{ℕ, zero, suc, ◌≤◌, ◌<◌, ◌≡◌, refl, ◌↔◌, true, List, [], ◌∷◌, length, get_or, take, Ok}
 use Rattle.std.proofs.Common.{ap, subst, ◌∙◌, get_or-take, arith}
 use Rattle.std.proofs.Math.Option.{some}
 use Rattle.std.proofs.Math.ListN.{get_or-eq_default}
@@ -12,11 +12,9 @@ use Rattle.value.specs.Kinds.{suits, kind_of_letter}
 use Rattle.value_sets.specs.Sets.{set_values, IsSet}
 use Rattle.value_sets.proofs.Sets.{values-set}
 use Rattle.names.specs.Names.{Names, below}
-use Rattle.formula.specs.declared.Check.TheVariants.{Passed}
 use Rattle.formula.specs.Sheet.{row_count, fields_of}
 use Rattle.formula.specs.Tree.{Exp, formula_of}
 use Rattle.formula.specs.Free.{free_e, inputs_of}
-use Rattle.formula.specs.declared.Verdict.TheVariants.{Passed as passed-all}
 use Rattle.formula.specs.Tests.{verdict_of, kinds_kept}
 use Rattle.formula.specs.Acceptance.{Admissible, Kinded}
 use Rattle.formula.proofs.Acceptance.{passed-admissible, passed-kinded}
@@ -80,24 +78,24 @@ module _ (s line : List ℕ) (vs : List Value) where
 
   module _ (h : Admissible s) where
     -- 18 passes a sheet if and only if every node of its formula keeps the rule of kinds.
-    pub sheet-passes-iff : (kind_check kinded (fields_of s) (row_count s) kinds ≡ Passed) ↔ AllE x kinds
+    pub sheet-passes-iff : (kind_check kinded (fields_of s) (row_count s) kinds ≡ Ok tt) ↔ AllE x kinds
     unfolding formula_of
     sheet-passes-iff = passes-iff (fields_of s) (row_count s) (names-earlier s h) (has-rows s h) kinds
 
     -- With any number of rounds, strict evaluation of a passed sheet does not stop: it yields what direct evaluation yields, each
     -- result of its kind or an err.
-    pub sheet-kinds-hold : kind_check kinded (fields_of s) (row_count s) kinds ≡ Passed → Set-suits line vs → (rounds : ℕ)
+    pub sheet-kinds-hold : kind_check kinded (fields_of s) (row_count s) kinds ≡ Ok tt → Set-suits line vs → (rounds : ℕ)
         → (strict_e x env rounds ≡ some (eval_e x env rounds)) × Suited (eval_e x env rounds) (kinds_e x kinds)
     sheet-kinds-hold passed suit rounds =
         kinds-hold x kinds (formula-sound s h) (sheet-passes-iff.0 passed) env (inputs-suit (free_e x) line vs suit) rounds
 
 -- 18 of an accepted sheet, as the laws above have it.
-pub kinds_kept_lem : (s line : List ℕ) → Kinded s line → kind_check kinded (fields_of s) (row_count s) (input_kinds (free_e (formula_of s)) line) ≡ Passed
+pub kinds_kept_lem : (s line : List ℕ) → Kinded s line → kind_check kinded (fields_of s) (row_count s) (input_kinds (free_e (formula_of s)) line) ≡ Ok tt
 unfolding kinds_kept formula_of
 kinds_kept_lem s line k = k.kept
 
 -- NO WRONG KIND in direct evaluation: of a sheet accepted with its kinds line, on any set that passes 12, with any number of rounds.
-pub evaluation-kinds-hold : (s line set : List ℕ) (vs : List Value) → verdict_of s line ≡ passed-all → set_values (letters_of (formula_of s) line) set ≡ some vs → (rounds : ℕ)
+pub evaluation-kinds-hold : (s line set : List ℕ) (vs : List Value) → verdict_of s line ≡ Ok tt → set_values (letters_of (formula_of s) line) set ≡ some vs → (rounds : ℕ)
     → (strict_e (formula_of s) (inputs_hold (free_e (formula_of s)) vs) rounds ≡ some (eval_e (formula_of s) (inputs_hold (free_e (formula_of s)) vs) rounds))
     × Suited (eval_e (formula_of s) (inputs_hold (free_e (formula_of s)) vs) rounds) (kinds_e (formula_of s) (input_kinds (free_e (formula_of s)) line))
 evaluation-kinds-hold s line set vs accepted read =

@@ -1,13 +1,12 @@
 -- Laws of specs/Kinded.antt, and what only they need.
 use Prim.Native.Nat.{ℕ, zero, suc, ◌≤◌, ◌<◌}
-use Rattle.std.specs.Prelude.{◌≡◌, ◌↔◌, Bool, cond}
+use Rattle.std.specs.Prelude.{◌≡◌, ◌↔◌, Bool, cond, Ok}
 use Rattle.std.proofs.Math.Path.{refl, subst}
 use Rattle.std.proofs.Common.{sym, ap, arith}
 use Rattle.std.proofs.Math.Bool.{true, false}
 use mathlib.Core.List.{List, [], ◌∷◌, ◌++◌}
 use Rattle.formula.specs.declared.Shape.{Shape}
 use Rattle.formula.specs.declared.Shape.TheVariants.{Identifier, Constant, Pair, Operator, Let, If, For, Iter}
-use Rattle.formula.specs.declared.Check.TheVariants.{Passed}
 use Rattle.formula.specs.Sheet.{shape_at, named_in}
 use Rattle.formula.specs.Tree.{Exp, identifier, constant, pair, operator, let_e, if_e, for_e, Body, ret, iter, let_b, if_b, exp_node, body_node, exp_of, body_of}
 use Rattle.formula.specs.TreeLaws.{AllBetween, Named}
@@ -172,7 +171,7 @@ module _ (t : List ℕ) (n : ℕ) (ok : Named t n) where
 
 -- ---- the test of a sheet
 -- Test 18 passes a formula if and only if every node of its tree keeps the rule.
-pub passes-iff : (t : List ℕ) (n : ℕ) → Named t n → 1 ≤ n → (kinds : Kinds) → (kind_check kinded t n kinds ≡ Passed) ↔ AllE (exp_of t n) kinds
+pub passes-iff : (t : List ℕ) (n : ℕ) → Named t n → 1 ≤ n → (kinds : Kinds) → (kind_check kinded t n kinds ≡ Ok tt) ↔ AllE (exp_of t n) kinds
 unfolding kind_check lowest_of node_in
 passes-iff t n ok l kinds =
     let both = faultless-iff t n ok n l (omega arith) false kinds in

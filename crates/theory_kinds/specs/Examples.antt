@@ -12,9 +12,7 @@ use Rattle.value.specs.declared.ValueKind.TheVariants.{Whole as whole-kind}
 use Rattle.value.specs.Senses.{err}
 use Rattle.value.specs.Constants.{thousandths}
 use Rattle.examples.specs.Sheets.{bytes, lesser, factorial}
-use Rattle.formula.specs.declared.Check.{Check}
-use Rattle.formula.specs.declared.Check.TheVariants.{Passed, Fault}
-use Rattle.formula.specs.declared.Verdict.TheVariants.{Passed as passed}
+use Rattle.formula.specs.Results.{Check}
 use Rattle.formula.specs.Sheet.{row_count, fields_of}
 use Rattle.formula.specs.Tree.{Exp, identifier, constant, pair, operator, if_e, for_e, ret, iter, if_b, formula_of}
 use Rattle.formula.specs.Free.{free_e}

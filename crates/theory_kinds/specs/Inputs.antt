@@ -9,11 +9,9 @@ use Rattle.value.specs.Senses.{err}
 use Rattle.value.specs.Kinds.{suits, kind_of_letter}
 use Rattle.value_sets.specs.Sets.{set_values, IsSet}
 use Rattle.names.specs.Names.{Names, below}
-use Rattle.formula.specs.declared.Check.TheVariants.{Passed}
 use Rattle.formula.specs.Sheet.{row_count, fields_of}
 use Rattle.formula.specs.Tree.{Exp, formula_of}
 use Rattle.formula.specs.Free.{free_e, inputs_of}
-use Rattle.formula.specs.declared.Verdict.TheVariants.{Passed as passed-all}
 use Rattle.formula.specs.Tests.{verdict_of, kinds_kept}
 use Rattle.formula.specs.Acceptance.{Admissible, Kinded}
 use Rattle.formula.specs.Kinds.{Kinds, kinds_e, kinded}

@@ -3,71 +3,48 @@
 // and writes for each what the call answers, refusal, row and rows, in six-character fields, and then the new sheet. The sheets in data/ and
 // what stdout has are those of the separately written tidy (compare/, tidy_cases).
 ghost use Rattle.std.specs.Prelude.{◌≡◌, ◌≤◌};
-ghost use Rattle.text.specs.Printed.{head_line};
+ghost use Rattle.text.specs.Printed.{head_line as headLine};
 
-use files::{large_buffer, open_read, read_full, write_all};
+use case_files::{MOST_CASES, head_line, open_case};
+use files::{LONG, read_full};
 use sheet_fields::layout::{MOST_ROWS, ROW_BYTES};
 use sheet_tidy::{TidyAnswer, tidy};
 use std::rt::Files;
 use text::HEAD_LINE;
-use text_print::{put_head, put_number};
-
-const MOST_CASES: u32 = 999;
-
-// A sheet's number is written as one of four digits, which has the zeros before it; its path starts behind the first.
-const FIRST_OF_FOUR_DIGITS: u32 = 1000;
-
-const PATH_AT: usize = 3;
-
-// Opens sheet k.
-fn open<R: Files>(files: &R, k: u32) -> Option<R::File>
-    requires { k ≤ 999 }
-{
-    let mut path = *b"NNNNNN/formula.txt";
-    put_number(&mut path, 0, FIRST_OF_FOUR_DIGITS + k);
-    open_read(files, &path[PATH_AT..])
-}
 
 // An answer as a line.
 fn line(a: TidyAnswer) -> [u8; HEAD_LINE]
-    ensures { result ≡ head_line a.refusal a.row a.rows }
+    ensures { result ≡ headLine a.refusal a.row a.rows }
 {
-    let mut out = [0u8; HEAD_LINE];
-    put_head(&mut out, a.refusal, a.row, a.rows);
-    out
+    head_line(a.refusal, a.row, a.rows)
 }
 
 // Tidies a sheet, and writes the answer and the new sheet.
 fn write_tidied(rt: &impl Print, sheet: &[u8]) {
-    let mut out = large_buffer();
+    let mut out = [0u8; LONG];
     let a = tidy(sheet, &mut out);
-    write_all(rt, &line(a));
+    let _ = rt.write_all(&line(a));
     let rows = a.rows as usize;
     if rows <= MOST_ROWS {
-        let end = ROW_BYTES * rows;
-        write_all(rt, &out[..end]);
+        let _ = rt.write_all(&out[..ROW_BYTES * rows]);
     }
 }
 
-// Makes case k; false where it is missing.
-fn show<R: Files + Print>(rt: &R, k: u32) -> bool
+// Makes case k; none where it is missing.
+fn show<R: Files + Print>(rt: &R, k: u32) -> Option<()>
     requires { k ≤ 999 }
 {
-    let Some(mut file) = open(rt, k) else {
-        return false;
-    };
-    let mut sheet = large_buffer();
+    let mut file = open_case(rt, k, "formula.txt")?;
+    let mut sheet = [0u8; LONG];
     let n = read_full(&mut file, &mut sheet);
     write_tidied(rt, &sheet[..n]);
-    true
+    Some(())
 }
 
 fn main(rt: HostRuntime) {
-    let mut k = 1;
-    while k <= MOST_CASES {
-        if !show(&rt, k) {
+    for k in 1..=MOST_CASES {
+        if show(&rt, k).is_none() {
             return;
         }
-        k += 1;
     }
 }

@@ -1,7 +1,6 @@
 -- Laws of `apply`: document 01, "Values and operators". The table of codes is gone through once, in
 -- `apply-cases`; every other law is an instance of it. Assumes nothing.
 use mathlib.Core.Path.{◌≡◌, refl}
-use mathlib.Core.List.{◌∷◌, []}
 use mathlib.Core.Logic.{⊎_elim, ◌⊎◌, inl, inr}
 use mathlib.Core.Bool.{Bool, true, false}
 use Prim.Native.Nat.{ℕ, zero, suc, ◌≤◌, ◌<◌}
@@ -148,6 +147,9 @@ NotReal v = (x : Float) → v ≡ Real x → ⊥
 abbrev NotTruth : Value → Type 0
 NotTruth v = (x : Bool) → v ≡ Truth x → ⊥
 
+abbrev NotErr : Value → Type 0
+NotErr v = (r : Reason) → v ≡ Err r → ⊥
+
 module _ (c : ℕ) (a b : Value) where
   -- Operands that no operator of two numbers takes.
   pub numbers-err : 1 ≤ c → c ≤ 7 → ((f : ℤ → ℤ → Value) (g : Float → Float → Value) → numbers f g a b ≡ hand_on a b) → wholes remainder_of a b ≡ hand_on a b
@@ -176,13 +178,34 @@ module _ (c : ℕ) (l : 1 ≤ c) (u : c ≤ 7) where
   real-beside x (Err s) h = numbers-err c (Real x) (Err s) l u (λ f g. refl) refl
   real-beside x (Whole y) h = numbers-err c (Real x) (Whole y) l u (λ f g. refl) refl
 
-  pub truth-first : (x : Bool) (b : Value) → apply c (Truth x) b ≡ hand_on (Truth x) b
+  pub no-number-first : (a b : Value) → NotWhole a → NotReal a → apply c a b ≡ hand_on a b
   unfolding numbers wholes
-  truth-first x b = numbers-err c (Truth x) b l u (λ f g. refl) refl
+  no-number-first (Whole x) b n m = absurd (n x refl)
+  no-number-first (Real x) b n m = absurd (m x refl)
+  no-number-first (Truth x) b n m = numbers-err c (Truth x) b l u (λ f g. refl) refl
+  no-number-first (Err r) b n m = numbers-err c (Err r) b l u (λ f g. refl) refl
 
-  pub err-first : (r : Reason) (b : Value) → apply c (Err r) b ≡ hand_on (Err r) b
-  unfolding numbers wholes
-  err-first r b = numbers-err c (Err r) b l u (λ f g. refl) refl
+module _ (c : ℕ) (l : 8 ≤ c) (u : c ≤ 9) where
+  pub truth-beside : (x : Bool) (b : Value) → NotTruth b → NotErr b → apply c (Truth x) b ≡ hand_on (Truth x) b
+  unfolding logical
+  truth-beside x (Truth y) n m = absurd (n y refl)
+  truth-beside x (Err r) n m = absurd (m r refl)
+  truth-beside x (Whole y) n m = logical-err c (Truth x) (Whole y) l u (λ d f. refl)
+  truth-beside x (Real y) n m = logical-err c (Truth x) (Real y) l u (λ d f. refl)
+
+  pub err-beside : (r : Reason) (b : Value) → NotTruth b → apply c (Err r) b ≡ hand_on (Err r) b
+  unfolding logical
+  err-beside r (Truth y) n = absurd (n y refl)
+  err-beside r (Err s) n = logical-err c (Err r) (Err s) l u (λ d f. refl)
+  err-beside r (Whole y) n = logical-err c (Err r) (Whole y) l u (λ d f. refl)
+  err-beside r (Real y) n = logical-err c (Err r) (Real y) l u (λ d f. refl)
+
+  pub no-truth-first : (a b : Value) → NotTruth a → NotErr a → apply c a b ≡ hand_on a b
+  unfolding logical
+  no-truth-first (Truth x) b n m = absurd (n x refl)
+  no-truth-first (Err r) b n m = absurd (m r refl)
+  no-truth-first (Whole x) b n m = logical-err c (Whole x) b l u (λ d f. refl)
+  no-truth-first (Real x) b n m = logical-err c (Real x) b l u (λ d f. refl)
 
 pub not-no-truth : (a b : Value) → NotTruth a → apply 10 a b ≡ hand_on_one a
 unfolding apply

@@ -1,6 +1,6 @@
 -- Floats of the code and of the definitions: between the infinities lie the finite numbers; which patterns are finite; and that the quotient of two
 -- exact floats is a constant's value, rounded once. Assumes nothing.
-use mathlib.Core.Path.{◌≡◌, refl, sym, ap, ◌∙◌}
+use mathlib.Core.Path.{◌≡◌, refl, ap, ◌∙◌}
 use mathlib.Core.Bool.{Bool, true, false, ◌&&◌, not, cond}
 use Prim.Native.Nat.{ℕ, zero, suc, ◌+◌, ◌*◌, ◌/◌, ◌%◌, ◌≤◌, ◌<◌}
 use native.Mathlib.Omega.{arith}
@@ -16,6 +16,7 @@ use lib.Ieee.Positive.{positive, positive-finite, between}
 use lib.Ieee.Bits.{to_bits-lt, nan_bits_above, is_true, of_bits-fits}
 use lib.Ieee.Back.{round_whole}
 use lib.Ieee.Exact.{HasValue}
+use Rattle.std.specs.Float.{float_is_finite}
 use borrow.Author.Tests.{le-ltb, ltb-true, ltb-false, ne_eqb, eq-eqb}
 use Rattle.value.specs.declared.Reason.TheVariants.{OutOfRange}
 use Rattle.value.specs.declared.Value.TheVariants.{Err, Real}
@@ -25,19 +26,12 @@ use Rattle.value.specs.Constants.{thousandths}
 
 -- ---- finite numbers
 
--- Below infinity, the test above minus infinity decides.
-pub above-decides : (x : Float) → fits binary32 x ≡ true → lt x (inf false) ≡ true → lt (inf true) x ≡ is_real x
-unfolding lt
-above-decides nan f h = refl
-above-decides (inf true) f h = refl
-above-decides (inf false) f h = let e : ◌≡◌ {A = ℕ} 0 1 = cc in absurd (omega arith)
-above-decides (fin s m e) f h = sym f
-
-pub not-below : (x : Float) → lt x (inf false) ≡ false → false ≡ is_real x
-unfolding lt
-not-below nan h = refl
-not-below (inf s) h = refl
-not-below (fin s m e) h = let e : ◌≡◌ {A = ℕ} 0 1 = cc in absurd (omega arith)
+-- What is a float of the format by its type is a finite number where the library's test says so.
+pub finite_real : (x : Float) → fits binary32 x ≡ true → is_real x ≡ float_is_finite x
+unfolding float_is_finite
+finite_real nan h = refl
+finite_real (inf s) h = refl
+finite_real (fin s m e) h = h
 
 -- A finite number is no NaN.
 pub real-no-nan : (x : Float) → is_real x ≡ true → is_nan x ≡ false

@@ -1,7 +1,7 @@
 -- Tokens as words: which words true, false and the plain err have, and that a word which was read as a token is that token's word. Who cites these
 -- names no case of a value, so a further one changes the proofs here alone. Assumes nothing.
 use Prim.Native.Nat.{ℕ, ◌+◌, ◌*◌, ◌≤◌}
-use mathlib.Core.Path.{◌≡◌, refl, sym, ap, ◌∙◌}
+use mathlib.Core.Path.{◌≡◌, refl, sym}
 use mathlib.Core.Bool.{Bool, true, false}
 use mathlib.Core.Option.{Option, some, none}
 use native.Mathlib.Omega.{arith}

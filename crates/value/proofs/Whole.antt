@@ -5,9 +5,13 @@ use Prim.Native.Nat.{ℕ, zero, suc, ◌*◌, ◌-◌, ◌/◌, ◌^◌, ◌≤�
 use native.Mathlib.Omega.{arith}
 use native.Mathlib.Nat.{mul-le-mul, div-le_self, lt_of_le_of_lt}
 use lib.IntN.{ℤ, pos, negsuc, ◌+ℤ◌, ◌-ℤ◌, ◌*ℤ◌, neg_ℤ}
-use lib.Signed.{lt_z, quot_z, rem_z, mag, mag_rem}
+use lib.Signed.{quot_z, rem_z, mag, mag_rem}
 use lib.Dec.{ltb, leb, eqb}
-use borrow.Author.Tests.{ltb-true, ltb-false, le-leb, lt-leb, ne_eqb, eqb-true, eqb-false, leb-true}
+use Rattle.std.specs.Prelude.{Result, Ok, OkIff, Some, None}
+use Rattle.std.specs.Prelude.{Err as Failed}
+use Rattle.std.specs.Result.{result_ok}
+use Rattle.std.proofs.lemmas.Option.{same_Some, none-some}
+use borrow.Author.Tests.{le-leb, ne_eqb, eqb-true, eqb-false, leb-true}
 use mir.Syntax.{w32, w64}
 use mir.Val.{SFits, to_z, of_z}
 use mir.Facts.{to_z-of_z, sfits_widen}
@@ -26,9 +30,6 @@ back64 f = to_z-of_z {w = w64} (sfits_widen {w = w32} {w' = w64} tt f)
 -- a number cast from 32 bits to 64 is itself
 pub there : {z : ℤ} → SFits w32 z → to_z w64 (of_z w64 (to_z w32 (of_z w32 z))) ≡ z
 there f = rw (back f) (back64 f)
-
-pub widened : {z : ℤ} → SFits w32 z → SFits w64 (to_z w32 (of_z w32 z))
-widened f = rw (back f) (sfits_widen tt f)
 
 mag-cond : (t : Bool) (a b : ℕ) → a ≤ 4294967296 → b ≤ 4294967296 → mag (cond t (negsuc (b - suc a)) (pos (a - b))) < 2 ^ 63
 mag-cond true a b h k = omega arith
@@ -80,20 +81,6 @@ and-true : (t : Bool) → t && true ≡ t
 and-true true = refl
 and-true false = refl
 
-lower : (z : ℤ) → lt_z z (negsuc 2147483647) ≡ true → Err OutOfRange ≡ fit_of z
-unfolding fit_of
-lower (pos n) h = let e : ◌≡◌ {A = ℕ} 0 1 = cc in absurd (omega arith)
-lower (negsuc n) h = simp (lt-leb n 2147483647 (ltb-true _ _ h))
-
-upper : (z : ℤ) → lt_z (pos 2147483647) z ≡ true → Err OutOfRange ≡ fit_of z
-unfolding fit_of
-upper (pos n) h = simp (lt-leb n 2147483647 (ltb-true _ _ h))
-upper (negsuc n) h = let e : ◌≡◌ {A = ℕ} 0 1 = cc in absurd (omega arith)
-
-within : (z : ℤ) → lt_z z (negsuc 2147483647) ≡ false → lt_z (pos 2147483647) z ≡ false → mag z < 2147483648
-within (pos n) h k = omega (arith, ltb-false 2147483647 n k)
-within (negsuc n) h k = omega (arith, ltb-false 2147483647 n h)
-
 inside : (z : ℤ) → mag z < 2147483648 → Whole z ≡ fit_of z
 unfolding fit_of
 inside (pos n) h = simp (le-leb n 2147483647 (omega arith))
@@ -117,15 +104,14 @@ divided-in-range b z = go (is_zero b)
     go true = tt
     go false = fit-in-range z
 
-module _ (z : ℤ) (f : SFits w64 z) where
-  pub too-low : lt_z (to_z w64 (of_z w64 z)) (negsuc 2147483647) ≡ true → Err OutOfRange ≡ fit_of z
-  too-low h = lower z (rw (to_z-of_z f) at h)
-
-  pub too-high : lt_z (pos 2147483647) (to_z w64 (of_z w64 z)) ≡ true → Err OutOfRange ≡ fit_of z
-  too-high h = upper z (rw (to_z-of_z f) at h)
-
-  pub whole-fits : lt_z (to_z w64 (of_z w64 z)) (negsuc 2147483647) ≡ false → lt_z (pos 2147483647) (to_z w64 (of_z w64 z)) ≡ false → SFits w32 z
-  whole-fits h k = record { sfits = within z (rw (to_z-of_z f) at h) (rw (to_z-of_z f) at k) }
+-- an answer that fits no 32 bits is the err
+pub outside : (z : ℤ) → (SFits w32 z → ⊥) → Err OutOfRange ≡ fit_of z
+unfolding fit_of
+outside z n = go (in_range z) refl
+  where
+    go : (t : Bool) → in_range z ≡ t → Err OutOfRange ≡ pick t (Whole z) (Err OutOfRange)
+    go true e = absurd (n (record { sfits = fitted z true e }))
+    go false e = refl
 
 pub whole_is : (z : ℤ) → SFits w32 z → Whole z ≡ fit_of z
 whole_is z f = inside z f.sfits
@@ -141,11 +127,6 @@ nonzero-bits (pos zero) h = absurd (h refl)
 nonzero-bits (pos (suc n)) h = refl
 nonzero-bits (negsuc n) h = refl
 
-pub nonzero-64 : (z : ℤ) → SFits w32 z → (of_z w32 z ≡ 0 → ⊥) → 0 < of_z w64 z
-nonzero-64 (pos zero) f h = absurd (h refl)
-nonzero-64 (pos (suc n)) f h = omega arith
-nonzero-64 (negsuc n) f h = omega (arith, f.sfits)
-
 -- equality, on bits
 pub eq-bits : (a b : ℤ) → SFits w32 a → SFits w32 b → eqb (of_z w32 a) (of_z w32 b) ≡ eq_z a b
 eq-bits (pos a) (pos b) f g = refl
@@ -158,3 +139,12 @@ eq-bits (negsuc a) (negsuc b) f g = go (eqb (of_z w32 (negsuc a)) (of_z w32 (neg
     go false p false q = p ∙ sym q
     go true p false q = absurd (eqb-false a b q (omega (arith, f.sfits, g.sfits, eqb-true (of_z w32 (negsuc a)) (of_z w32 (negsuc b)) p)))
     go false p true q = absurd (eqb-false (of_z w32 (negsuc a)) (of_z w32 (negsuc b)) p (ap (λ (n : ℕ). of_z w32 (negsuc n)) (eqb-true a b q)))
+
+-- ---- what a number tried in fewer bits is read as
+pub read : {E P : Type 0} {n w : ℕ} (r : Result ℕ E) → OkIff r P n → Some w ≡ result_ok r → P × (w ≡ n)
+read {w = w} (Ok x) h e = (h.0, same_Some w x e ∙ h.1)
+read {w = w} (Failed x) h e = absurd (none-some w (sym e))
+
+pub unread : {E P : Type 0} (r : Result ℕ E) (n : ℕ) → OkIff r P n → None ≡ result_ok r → P → ⊥
+unread (Ok x) n h e = absurd (none-some x e)
+unread (Failed x) n h e = h

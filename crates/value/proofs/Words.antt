@@ -1,7 +1,7 @@
 -- Laws of the byte form (specs/Bytes): a value and its word determine each other, a word and its five bytes too, and
 -- storing a word changes those five bytes alone. Assumes nothing.
 use mathlib.Core.Path.{◌≡◌, refl, sym, ap, ◌∙◌}
-use mathlib.Core.Bool.{Bool, true, false, cond, not, ◌&&◌, false≢true}
+use mathlib.Core.Bool.{Bool, true, false, cond, ◌&&◌, false≢true}
 use mathlib.Core.Logic.{◌⊎◌, inl, inr, ⊎_elim}
 use mathlib.Core.List.{List, [], ◌∷◌, ◌++◌, append_assoc}
 use mathlib.Core.Option.{Option, some, none, some-injective, none-ne-some}
@@ -11,7 +11,7 @@ use native.Mathlib.Nat.{add-zero, div-div-eq-div-mul, div-add-mod', mod-eq_of_lt
 use borrow.Author.Tests.{ne_eqb, lt-ltb, le-ltb, eqb-true, ltb-true, ltb-false}
 use lib.Dec.{eqb, ltb}
 use lib.IntN.{ℤ}
-use lib.Ieee.{Float, binary32, fits, of_bits, to_bits}
+use lib.Ieee.{Float, binary32, of_bits, to_bits}
 use lib.Ieee.Scale.{finite}
 use lib.Ieee.Bits.{of_bits-to_bits, to_bits-of_bits}
 use lib.ListN.{length, set, get_or, take, drop}

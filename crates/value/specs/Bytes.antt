@@ -2,7 +2,7 @@
 -- lowest first. Document 01, "Values and operators", gives the values, document 02, Jobs 5 and 9, the reasons of errs and the floats;
 -- "Running" and "Said by .." ask of 12 and 31 that a field or token outside its range is refused, and `value_of` is the definition of that
 -- range. Assumes nothing.
-use Rattle.std.specs.Prelude.{ℕ, ◌+◌, ◌*◌, ◌/◌, ◌%◌, ◌<◌, ◌≡◌, Bool, true, false, ◌&&◌, List, [], ◌∷◌, eqb, ltb, get_or}
+use Rattle.std.specs.Prelude.{ℕ, ◌+◌, ◌*◌, ◌/◌, ◌%◌, ◌<◌, ◌≡◌, Bool, true, false, ◌&&◌, List, [], ◌∷◌, eqb, ltb, get_or, Some, None}
 use Rattle.std.proofs.Math.Option.{Option, some, none}
 use Rattle.std.specs.Int.Signed.{mag}
 use Rattle.std.specs.Float.{binary32}
@@ -11,12 +11,11 @@ use Rattle.std.specs.Float.Ieee.Scale.{finite}
 use Rattle.std.proofs.lemmas.List.Edits.{sets}
 use Rattle.std.specs.Int.{w32}
 use Rattle.std.proofs.Common.{to_z, of_z}
+use Rattle.std.specs.Prelude as std
 use Rattle.value.specs.declared.Reason.{Reason}
 use Rattle.value.specs.declared.Reason.TheVariants.{ZeroDivisor, OutOfRange, Other}
 use Rattle.value.specs.declared.Value.{Value}
 use Rattle.value.specs.declared.Value.TheVariants.{Whole, Truth, Err, Real}
-use Rattle.value.specs.declared.Decoded.{Decoded}
-use Rattle.value.specs.declared.Decoded.TheVariants.{Valid, Invalid}
 use Rattle.value.specs.Operators.{pick, is_real, real_of}
 
 -- A whole number of a value lies in the range, and a float is a finite number; what the machine holds always does.
@@ -94,14 +93,14 @@ is_some (some v) = true
 is_some none = false
 
 -- the code's answer for an optional value
-abbrev pub decoded : Option Value → Decoded
-decoded (some v) = Valid v
-decoded none = Invalid
+abbrev pub decoded : Option Value → std.Option Value
+decoded (some v) = Some v
+decoded none = None
 
 -- the word of a token, 0 where there is none
-abbrev pub word_or : Decoded → ℕ
-word_or (Valid v) = word_of v
-word_or Invalid = 0
+abbrev pub word_or : std.Option Value → ℕ
+word_or (Some v) = word_of v
+word_or None = 0
 
 unfoldable pub word_bytes : ℕ → List ℕ
 word_bytes w = w % 256 ∷ w / 256 % 256 ∷ w / 65536 % 256 ∷ w / 16777216 % 256 ∷ w / 4294967296 % 256 ∷ []

@@ -1,13 +1,11 @@
 // The byte form of a value (specs/Bytes): five bytes, read and written as one word below 2^40.
 // Tokens in memory and the sets that the firmware lends have this form. Assumes of a place that five bytes lie there.
 ghost use Rattle.std.specs.Prelude.{◌≡◌, ℕ, ◌+◌, ◌*◌, ◌≤◌, ◌<◌, length};
-ghost use Rattle.std.specs.Int.{w32};
-ghost use Rattle.std.proofs.Common.{to_z, of_z};
 ghost use Rattle.value.specs.Kinds.{is_letter, of_kind};
 ghost use Rattle.value.specs.Bytes.{word_of, value_of, decoded, is_some, word_or, word_at, stored, whole_of, truth_of, err_of, float_of};
 ghost use Rattle.value.specs.Constants.{in_constant_range};
 
-use crate::{Decoded, Reason, Value, is_finite};
+use crate::{Reason, Value};
 
 // The words of no token, true, false, and of the errs: the plain one and those with a reason.
 pub const NONE: u64 = 0;
@@ -45,27 +43,7 @@ pub const TRUTH_LETTER: u8 = b'T';
 
 pub const REAL_LETTER: u8 = b'R';
 
-// A whole number from its 32 bits, two's complement.
-fn signed_of(bits: u32) -> i32
-    ensures { result ≡ to_z w32 bits }
-{
-    if bits < 2147483648 {
-        return bits as i32;
-    }
-    let low = 4294967295 - bits;
-    -1 - low as i32
-}
-
-fn bits_of(z: i32) -> u32
-    ensures { result ≡ of_z w32 z }
-{
-    if 0 <= z {
-        return z as u32;
-    }
-    let low = (-1 - z) as u32;
-    4294967295 - low
-}
-
+#[tactic(auto, unfolding(crate::specs::Bytes::word_of))]
 fn err_word(r: Reason) -> u64
     ensures { result ≡ word_of (Value.Err r) }
 {
@@ -80,85 +58,76 @@ fn err_word(r: Reason) -> u64
 fn real_word(x: f32) -> u64
     ensures { result ≡ word_of (Value.Real x) }
 {
-    if is_finite(x) {
-        return 4 + 256 * (f32::to_bits(x) as u64);
+    if x.is_finite() {
+        4 + 256 * u64::from(x.to_bits())
+    } else {
+        OUT_OF_RANGE
     }
-    OUT_OF_RANGE
 }
 
+#[tactic(auto, unfolding(crate::specs::Bytes::word_of))]
 pub fn to_word(v: Value) -> u64
     ensures { result ≡ word_of v }
 {
     match v {
-        Value::Whole(z) => 1 + 256 * (bits_of(z) as u64),
-        Value::Truth(b) => {
-            if b {
-                return TRUE;
-            }
-            FALSE
-        }
+        Value::Whole(z) => 1 + 256 * u64::from(z.cast_unsigned()),
+        Value::Truth(true) => TRUE,
+        Value::Truth(false) => FALSE,
         Value::Err(r) => err_word(r),
         Value::Real(x) => real_word(x),
     }
 }
 
-fn from_whole(bits: u64) -> Decoded
+fn from_whole(bits: u64) -> Option<Value>
     ensures { result ≡ decoded (whole_of bits) }
 {
-    if bits < PATTERNS {
-        return Decoded::Valid(Value::Whole(signed_of(bits as u32)));
-    }
-    Decoded::Invalid
+    let bits = u32::try_from(bits).ok()?;
+    Some(Value::Whole(bits.cast_signed()))
 }
 
-fn from_truth(bits: u64) -> Decoded
+#[tactic(auto, unfolding(crate::specs::Bytes::truth_of))]
+fn from_truth(bits: u64) -> Option<Value>
     ensures { result ≡ decoded (truth_of bits) }
 {
-    if bits == 0 {
-        return Decoded::Valid(Value::Truth(false));
+    match bits {
+        0 => Some(Value::Truth(false)),
+        1 => Some(Value::Truth(true)),
+        _ => None,
     }
-    if bits == 1 {
-        return Decoded::Valid(Value::Truth(true));
-    }
-    Decoded::Invalid
 }
 
-fn from_err(bits: u64) -> Decoded
+#[tactic(auto, unfolding(crate::specs::Bytes::err_of))]
+fn from_err(bits: u64) -> Option<Value>
     ensures { result ≡ decoded (err_of bits) }
 {
-    if bits == 0 {
-        return Decoded::Valid(Value::Err(Reason::Other));
+    match bits {
+        0 => Some(Value::Err(Reason::Other)),
+        1 => Some(Value::Err(Reason::ZeroDivisor)),
+        2 => Some(Value::Err(Reason::OutOfRange)),
+        _ => None,
     }
-    if bits == 1 {
-        return Decoded::Valid(Value::Err(Reason::ZeroDivisor));
-    }
-    if bits == 2 {
-        return Decoded::Valid(Value::Err(Reason::OutOfRange));
-    }
-    Decoded::Invalid
 }
 
 // Whether bits are the pattern of a finite number.
 fn is_pattern(bits: u64) -> bool
     ensures { result ≡ is_some (float_of bits) }
 {
-    if bits < PATTERNS {
-        return bits % SIGN < INFINITY;
-    }
-    false
+    bits < PATTERNS && bits % SIGN < INFINITY
 }
 
-fn from_real(bits: u64) -> Decoded
+fn from_real(bits: u64) -> Option<Value>
     ensures { result ≡ decoded (float_of bits) }
 {
     if is_pattern(bits) {
-        return Decoded::Valid(Value::Real(f32::from_bits(bits as u32)));
+        Some(Value::Real(f32::from_bits(bits as u32)))
+    } else {
+        None
     }
-    Decoded::Invalid
 }
 
 // The value that a word is the byte form of, or none.
-pub fn from_word(w: u64) -> Decoded
+#[tactic(auto, unfolding(crate::specs::Bytes::value_of))]
+pub fn from_word(w: u64) -> Option<Value>
     ensures { result ≡ decoded (value_of w) }
 {
     let tag = w % 256;
@@ -168,7 +137,7 @@ pub fn from_word(w: u64) -> Decoded
         2 => from_truth(bits),
         3 => from_err(bits),
         4 => from_real(bits),
-        _ => Decoded::Invalid,
+        _ => None,
     }
 }
 
@@ -202,13 +171,7 @@ pub fn in_constant_range(w: u64) -> bool
 pub fn is_letter(b: u8) -> bool
     ensures { result ≡ is_letter b }
 {
-    if b == WHOLE_LETTER {
-        return true;
-    }
-    if b == TRUTH_LETTER {
-        return true;
-    }
-    b == REAL_LETTER
+    matches!(b, WHOLE_LETTER | TRUTH_LETTER | REAL_LETTER)
 }
 
 // Whether a word is the byte form of a value of a letter's kind, or of an err.
@@ -228,59 +191,42 @@ pub fn is_of_kind(letter: u8, w: u64) -> bool
 fn whole_in(letter: u8, bits: u64) -> bool
     ensures { result ≡ is_some (of_kind letter (whole_of bits)) }
 {
-    if letter == TRUTH_LETTER {
-        return false;
+    match letter {
+        TRUTH_LETTER => false,
+        REAL_LETTER => false,
+        _ => bits < PATTERNS,
     }
-    if letter == REAL_LETTER {
-        return false;
-    }
-    bits < PATTERNS
 }
 
 fn truth_in(letter: u8, bits: u64) -> bool
     ensures { result ≡ is_some (of_kind letter (truth_of bits)) }
 {
-    if letter == TRUTH_LETTER {
-        return bits < 2;
-    }
-    false
+    letter == TRUTH_LETTER && bits < 2
 }
 
 fn real_in(letter: u8, bits: u64) -> bool
     ensures { result ≡ is_some (of_kind letter (float_of bits)) }
 {
-    if letter == REAL_LETTER {
-        return is_pattern(bits);
-    }
-    false
+    letter == REAL_LETTER && is_pattern(bits)
 }
 
 // A word that was read, where it is a value's; that of no token where it is none.
 pub fn token_word(w: u64) -> u64
     ensures { result ≡ word_or (decoded (value_of w)) }
 {
-    if is_value(w) {
-        return w;
-    }
-    NONE
+    if is_value(w) { w } else { NONE }
 }
 
-fn wide(b: u8) -> u64
-    ensures { (result ≡ b) × (result < 256) }
-{
-    b as u64
-}
-
-// The word in the five bytes from `at` on.
+// The word in the five bytes from `at` on. Byte by byte, here and in `store`: no integer of the language has five bytes.
 pub fn load(s: &[u8], at: usize) -> u64
     requires { at + 5 ≤ length s.now }
     ensures { (result ≡ word_at s.now at) × (result < 1099511627776) }
 {
-    wide(s[at])
-        + 256 * wide(s[at + 1])
-        + 65536 * wide(s[at + 2])
-        + 16777216 * wide(s[at + 3])
-        + 4294967296 * wide(s[at + 4])
+    u64::from(s[at])
+        + 256 * u64::from(s[at + 1])
+        + 65536 * u64::from(s[at + 2])
+        + 16777216 * u64::from(s[at + 3])
+        + 4294967296 * u64::from(s[at + 4])
 }
 
 // Writes a word to the five bytes from `at` on.

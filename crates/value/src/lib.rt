@@ -41,13 +41,6 @@ pub enum Sense {
     Neither,
 }
 
-// What a word of the byte form is: a value, or none.
-#[derive(Clone, Copy)]
-pub enum Decoded {
-    Valid(Value),
-    Invalid,
-}
-
 // The plain err, the only one that anything but an operator makes of values in range.
 pub fn err() -> Value
     ensures { result ≡ err }
@@ -59,31 +52,28 @@ pub fn err() -> Value
 fn fit(z: i64) -> Value
     ensures { result ≡ fit_of z }
 {
-    if z < -2147483648 {
-        return Value::Err(Reason::OutOfRange);
+    match i32::try_from(z) {
+        Ok(w) => Value::Whole(w),
+        Err(_) => Value::Err(Reason::OutOfRange),
     }
-    if 2147483647 < z {
-        return Value::Err(Reason::OutOfRange);
-    }
-    Value::Whole(z as i32)
 }
 
 fn add(a: i32, b: i32) -> Value
     ensures { result ≡ add_of a b }
 {
-    fit(a as i64 + b as i64)
+    fit(i64::from(a) + i64::from(b))
 }
 
 fn subtract(a: i32, b: i32) -> Value
     ensures { result ≡ subtract_of a b }
 {
-    fit(a as i64 - b as i64)
+    fit(i64::from(a) - i64::from(b))
 }
 
 fn multiply(a: i32, b: i32) -> Value
     ensures { result ≡ multiply_of a b }
 {
-    fit(a as i64 * b as i64)
+    fit(i64::from(a) * i64::from(b))
 }
 
 // In 64 bits, since least number by -1 leaves 32.
@@ -93,7 +83,7 @@ fn divide(a: i32, b: i32) -> Value
     if b == 0 {
         return Value::Err(Reason::ZeroDivisor);
     }
-    fit(a as i64 / b as i64)
+    fit(i64::from(a) / i64::from(b))
 }
 
 fn remainder(a: i32, b: i32) -> Value
@@ -102,7 +92,7 @@ fn remainder(a: i32, b: i32) -> Value
     if b == 0 {
         return Value::Err(Reason::ZeroDivisor);
     }
-    fit(a as i64 % b as i64)
+    fit(i64::from(a) % i64::from(b))
 }
 
 fn less(a: i32, b: i32) -> Value
@@ -120,28 +110,26 @@ fn equal(a: i32, b: i32) -> Value
 fn negate(a: i32) -> Value
     ensures { result ≡ negate_of a }
 {
-    fit(0 - a as i64)
+    fit(-i64::from(a))
 }
 
+#[tactic(auto, unfolding(crate::specs::Operators::and_of))]
 fn and(a: bool, b: bool) -> Value
     ensures { result ≡ and_of a b }
 {
-    if a {
-        return Value::Truth(b);
-    }
-    Value::Truth(false)
+    Value::Truth(a && b)
 }
 
+#[tactic(auto, unfolding(crate::specs::Operators::or_of))]
 fn or(a: bool, b: bool) -> Value
     ensures { result ≡ or_of a b }
 {
-    if a {
-        return Value::Truth(true);
-    }
-    Value::Truth(b)
+    Value::Truth(a || b)
 }
 
-// Codes 1 to 7 of two whole numbers.
+// Codes 1 to 7 of two whole numbers. A code stays a number, as sheet and memory have it: an enum would be no plainer, since the meaning of
+// each code, 0 and those past 11 among them, is defined by the number.
+#[tactic(auto, unfolding(crate::specs::Operators::apply))]
 fn apply_wholes(code: u8, a: i32, b: i32) -> Value
     requires { (1 ≤ code) × (code ≤ 7) }
     ensures { result ≡ apply code (Value.Whole a) (Value.Whole b) }
@@ -157,27 +145,19 @@ fn apply_wholes(code: u8, a: i32, b: i32) -> Value
     }
 }
 
-// Whether a float is a finite number: between the infinities.
-fn is_finite(x: f32) -> bool
-    ensures { result ≡ is_real x }
-{
-    let infinity = 1.0f32 / 0.0f32;
-    if x < infinity {
-        return -infinity < x;
-    }
-    false
-}
-
 // The float x, or the err of an answer that is no finite number.
+#[tactic(auto, using(crate::proofs::Floats::finite_real), unfolding(crate::specs::Operators::real_of))]
 fn fit_real(x: f32) -> Value
     ensures { result ≡ real_of x }
 {
-    if is_finite(x) {
-        return Value::Real(x);
+    if x.is_finite() {
+        Value::Real(x)
+    } else {
+        Value::Err(Reason::OutOfRange)
     }
-    Value::Err(Reason::OutOfRange)
 }
 
+#[tactic(auto, unfolding(crate::specs::Operators::divide_real))]
 fn divide_reals(a: f32, b: f32) -> Value
     ensures { result ≡ divide_real a b }
 {
@@ -188,6 +168,7 @@ fn divide_reals(a: f32, b: f32) -> Value
 }
 
 // Codes 1 to 7 of two floats; a remainder of floats is a wrong kind.
+#[tactic(auto, unfolding(crate::specs::Operators::apply, crate::specs::Operators::add_real, crate::specs::Operators::subtract_real, crate::specs::Operators::multiply_real, crate::specs::Operators::less_real, crate::specs::Operators::equal_real))]
 fn apply_reals(code: u8, a: f32, b: f32) -> Value
     requires { (1 ≤ code) × (code ≤ 7) }
     ensures { result ≡ apply code (Value.Real a) (Value.Real b) }
@@ -212,6 +193,7 @@ pub fn thousandths(a: u32) -> Value
 }
 
 // Codes 8 and 9 of two truths.
+#[tactic(auto, unfolding(crate::specs::Operators::apply))]
 fn apply_truths(code: u8, a: bool, b: bool) -> Value
     requires { (8 ≤ code) × (code ≤ 9) }
     ensures { result ≡ apply code (Value.Truth a) (Value.Truth b) }
@@ -227,14 +209,13 @@ fn reason_or(v: Value, given: Reason) -> Reason
     ensures { result ≡ reason_or v given }
 {
     match v {
-        Value::Whole(_) => given,
-        Value::Truth(_) => given,
-        Value::Real(_) => given,
         Value::Err(r) => r,
+        _ => given,
     }
 }
 
 // Two operands that an operator cannot take: the leftmost err is handed on, and without one a wrong kind gives E.
+#[tactic(auto, unfolding(crate::specs::Operators::hand_on))]
 fn hand_on(a: Value, b: Value) -> Value
     ensures { result ≡ hand_on a b }
 {
@@ -242,6 +223,7 @@ fn hand_on(a: Value, b: Value) -> Value
 }
 
 // An operand that its operator cannot take: handed on if it is an err, else E.
+#[tactic(auto, unfolding(crate::specs::Operators::hand_on_one))]
 fn hand_on_one(a: Value) -> Value
     ensures { result ≡ hand_on_one a }
 {
@@ -253,35 +235,27 @@ pub fn apply_numbers(code: u8, a: Value, b: Value) -> Value
     requires { (1 ≤ code) × (code ≤ 7) }
     ensures { result ≡ apply code a b }
 {
-    match a {
-        Value::Whole(x) => {
-            let Value::Whole(y) = b else {
-                return hand_on(a, b);
-            };
-            apply_wholes(code, x, y)
-        }
-        Value::Real(x) => {
-            let Value::Real(y) = b else {
-                return hand_on(a, b);
-            };
-            apply_reals(code, x, y)
-        }
-        Value::Truth(_) => hand_on(a, b),
-        Value::Err(_) => hand_on(a, b),
+    match (a, b) {
+        (Value::Whole(x), Value::Whole(y)) => apply_wholes(code, x, y),
+        (Value::Real(x), Value::Real(y)) => apply_reals(code, x, y),
+        _ => hand_on(a, b),
     }
 }
 
 // A truth beside an err, where the truth d decides.
+#[tactic(auto, unfolding(crate::specs::Operators::beside_err))]
 fn beside_err(d: bool, a: bool, reason: Reason) -> Value
     ensures { result ≡ beside_err d a reason }
 {
     if a == d {
-        return Value::Truth(d);
+        Value::Truth(d)
+    } else {
+        Value::Err(reason)
     }
-    Value::Err(reason)
 }
 
 // Codes 8 and 9 of a truth and an err, whichever side the err stands: false decides an and, true an or.
+#[tactic(auto, unfolding(crate::specs::Operators::apply))]
 fn apply_beside_err(code: u8, a: bool, reason: Reason) -> Value
     requires { (8 ≤ code) × (code ≤ 9) }
     ensures { (result ≡ apply code (Value.Truth a) (Value.Err reason)) × (result ≡ apply code (Value.Err reason) (Value.Truth a)) }
@@ -297,21 +271,11 @@ fn apply_logical(code: u8, a: Value, b: Value) -> Value
     requires { (8 ≤ code) × (code ≤ 9) }
     ensures { result ≡ apply code a b }
 {
-    match a {
-        Value::Truth(x) => match b {
-            Value::Truth(y) => apply_truths(code, x, y),
-            Value::Err(s) => apply_beside_err(code, x, s),
-            Value::Whole(_) => hand_on(a, b),
-            Value::Real(_) => hand_on(a, b),
-        },
-        Value::Err(r) => match b {
-            Value::Truth(y) => apply_beside_err(code, y, r),
-            Value::Err(_) => hand_on(a, b),
-            Value::Whole(_) => hand_on(a, b),
-            Value::Real(_) => hand_on(a, b),
-        },
-        Value::Whole(_) => hand_on(a, b),
-        Value::Real(_) => hand_on(a, b),
+    match (a, b) {
+        (Value::Truth(x), Value::Truth(y)) => apply_truths(code, x, y),
+        (Value::Truth(x), Value::Err(r)) => apply_beside_err(code, x, r),
+        (Value::Err(r), Value::Truth(y)) => apply_beside_err(code, y, r),
+        _ => hand_on(a, b),
     }
 }
 

@@ -1,17 +1,16 @@
 -- The values of a set in the byte form (value's specs/Bytes), five bytes a value: document 01, "12 a set with another number of values than
 -- inputs, a bad value field"; document 02, Job 6, "Sets with another kind are refused with 12". The kinds are the letters of the kinds line, one an
 -- input. Push tests by it and direct evaluation reads by it. Assumes nothing.
-use Prim.Native.Nat.{ℕ, zero, suc, ◌+◌, ◌*◌, ◌-◌, ◌≤◌, ◌<◌}
-use Rattle.std.specs.Prelude.{◌≡◌, Bool, ◌&&◌}
+use Prim.Native.Nat.{ℕ, ◌+◌, ◌*◌, ◌<◌}
+use Rattle.std.specs.Prelude.{◌≡◌, Bool}
 use Rattle.std.proofs.Math.Bool.{true, false}
 use mathlib.Core.List.{List, [], ◌∷◌}
 use Rattle.std.proofs.Math.Option.{Option, some, none}
 use Rattle.std.proofs.Math.Dec.{eqb}
 use Rattle.std.proofs.Math.ListN.{length, get_or, drop}
-use native.Mathlib.Omega.{arith}
 use Rattle.value.specs.declared.Value.{Value}
 use Rattle.value.specs.Operators.{pick}
-use Rattle.value.specs.Bytes.{InRange, is_some, value_of, word_of, word_at}
+use Rattle.value.specs.Bytes.{InRange, value_of, word_of, word_at}
 use Rattle.value.specs.Senses.{err}
 use Rattle.value.specs.Kinds.{suits, kind_of_letter, of_kind}
 

@@ -9,16 +9,13 @@ pub fn is_set(set: &[u8], kinds: &[u8]) -> bool
     requires { length kinds.now < 256 }
     ensures { result ≡ set_ok kinds.now set.now }
 {
-    let n = kinds.len();
-    if set.len() != 5 * n {
+    if set.len() != 5 * kinds.len() {
         return false;
     }
-    let mut i = 0;
-    while i < n {
-        if !value::bytes::is_of_kind(kinds[i], value::bytes::load(set, 5 * i)) {
+    for (i, kind) in kinds.iter().enumerate() {
+        if !value::bytes::is_of_kind(*kind, value::bytes::load(set, 5 * i)) {
             return false;
         }
-        i += 1;
     }
     true
 }

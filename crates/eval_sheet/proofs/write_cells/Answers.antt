@@ -1,5 +1,4 @@
 use native.Mathlib.Omega.{arith}
-use Prim.Native.Nat.{◌-◌}
 use mathlib.Core.Path.{◌≡◌, refl, sym, ◌∙◌}
 use lib.IntN.{pos}
 use Rattle.value.specs.declared.Value.TheVariants.{Whole}
@@ -8,16 +7,16 @@ use Rattle.eval_sheet.specs.Handed.{written_none, written-more}
 use Rattle.eval_sheet.proofs.write_cells.Goals as goal
 
 pub loop-j-init : goal.loop-j-init
-loop-j-init c = (omega arith, written_none c.args.cells c.args.out.now, refl)
+loop-j-init c = (written_none c.args.cells c.args.out.now, refl)
 
 pub store-requires : goal.store-requires
-store-requires c = omega (arith, c.loop-j.invariant.2)
+store-requires c = omega (arith, c.loop-j.invariant.1)
 
 pub loop-j-preserved : goal.loop-j-preserved
-loop-j-preserved c = (omega arith, c.store.ensures ∙ rw (c.to_word.ensures, c.loop-j.invariant.1) refl ∙ sym (written-more c.args.cells c.args.out.now c.loop-j.j (cell (Whole (pos 0))) (let k = c.well_formed.0.1.0.1 in omega (arith, k))), omega (arith, c.loop-j.invariant.2))
+loop-j-preserved c = (c.store.ensures ∙ rw (c.to_word.ensures, c.loop-j.invariant.0) refl ∙ sym (written-more c.args.cells c.args.out.now c.loop-j.j (cell (Whole (pos 0))) (let k = c.well_formed.0.1.0.1 in omega (arith, k))), omega (arith, c.loop-j.invariant.1))
 
 pub shape_of-out : goal.shape_of-out
-shape_of-out c = c.loop-j.invariant.2
+shape_of-out c = c.loop-j.invariant.1
 
 pub returns : goal.returns
-returns c = let e : c.loop-j.j ≡ 16 = omega arith in (rw e at c.loop-j.invariant.1)
+returns c = let e : c.loop-j.j ≡ 16 = omega arith in (rw e at c.loop-j.invariant.0)

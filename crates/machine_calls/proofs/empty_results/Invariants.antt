@@ -5,7 +5,4 @@ use lib.ListN.{length}
 use Rattle.machine_calls.proofs.empty_results.Given as goal
 
 abbrev pub invariant-loop-j : goal.invariant-loop-j
-invariant-loop-j l = (l.j ≤ l.k) × (l.mem ≡ emptied_from l.j l.initial.mem l.base l.size) × (length l.mem ≡ length l.initial.mem)
-
-abbrev pub decreases-loop-j : goal.decreases-loop-j
-decreases-loop-j l = l.k - l.j
+invariant-loop-j l = (l.j ≤ l.k) × (l.mem ≡ emptied_from l.j l.initial.mem l.links.base l.links.size) × (length l.mem ≡ length l.initial.mem)

@@ -6,7 +6,4 @@ use Rattle.machine_valid.specs.Below.{all_below}
 use Rattle.machine_calls.proofs.have_room.Given as goal
 
 abbrev pub invariant-loop-j : goal.invariant-loop-j
-invariant-loop-j l = (l.j ≤ l.k) × (all_below l.j (input_room l.mem l.size) ≡ true)
-
-abbrev pub decreases-loop-j : goal.decreases-loop-j
-decreases-loop-j l = l.k - l.j
+invariant-loop-j l = (l.j ≤ l.k) × (all_below l.j (input_room l.mem l.links.size) ≡ true)

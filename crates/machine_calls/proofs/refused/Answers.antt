@@ -2,4 +2,4 @@ use mathlib.Core.Path.{◌∙◌, refl}
 use Rattle.machine_calls.proofs.refused.Goals as goal
 
 pub returns : goal.returns
-returns c = c.reply.ensures ∙ rw c.refusal_number.ensures refl
+returns c = c.reply.ensures ∙ rw c.from.ensures refl

@@ -5,7 +5,4 @@ use lib.ListN.{length}
 use Rattle.machine_calls.proofs.write_results.Given as goal
 
 abbrev pub invariant-loop-j : goal.invariant-loop-j
-invariant-loop-j l = (l.j ≤ 16) × (l.out ≡ written_from l.j l.mem l.base l.size l.k l.initial.out) × (length l.out ≡ length l.initial.out)
-
-abbrev pub decreases-loop-j : goal.decreases-loop-j
-decreases-loop-j l = 16 - l.j
+invariant-loop-j l = (l.j ≤ 16) × (l.out ≡ written_from l.j l.mem l.links.base l.links.size l.k l.initial.out) × (length l.out ≡ length l.initial.out)

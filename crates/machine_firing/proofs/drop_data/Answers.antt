@@ -8,12 +8,12 @@ use Rattle.machine_firing.proofs.drop_data.Goals as goal
 
 pub returns-then-is_absent : goal.returns-then-is_absent
 unfolding Done
-returns-then-is_absent c = let e = (sym (c.is_absent.ensures (token_from c.args.mem.now c.args.base c.args.size (port_of c.args.mem.now c.args.i 1)) (rw c.port_of-l.ensures at c.token_of.ensures)) ∙ c.if-is_absent.true) in (rw e refl, refl)
+returns-then-is_absent c = let e = (sym (c.is_absent.ensures (token_from c.args.mem.now c.args.links.base c.args.links.size (port_of c.args.mem.now c.args.i 1)) (rw c.port_of-l.ensures.0 at c.token_of.ensures)) ∙ c.if-is_absent.true) in (rw e refl, refl)
 
 pub returns-then-dry : goal.returns-then-dry
 unfolding Done
-returns-then-dry c = let e = (sym (c.is_absent.ensures (token_from c.args.mem.now c.args.base c.args.size (port_of c.args.mem.now c.args.i 1)) (rw c.port_of-l.ensures at c.token_of.ensures)) ∙ c.if-is_absent.false) in (rw e refl, rw c.if-dry.true refl)
+returns-then-dry c = let e = (sym (c.is_absent.ensures (token_from c.args.mem.now c.args.links.base c.args.links.size (port_of c.args.mem.now c.args.i 1)) (rw c.port_of-l.ensures.0 at c.token_of.ensures)) ∙ c.if-is_absent.false) in (rw e refl, rw c.if-dry.true refl)
 
 pub returns : goal.returns
 unfolding taken_two Done
-returns c = let e = (sym (c.is_absent.ensures (token_from c.args.mem.now c.args.base c.args.size (port_of c.args.mem.now c.args.i 1)) (rw c.port_of-l.ensures at c.token_of.ensures)) ∙ c.if-is_absent.false) in (rw e refl, rw c.if-dry.false (c.remove_from-2.ensures ∙ rw (c.port_of-l.ensures, c.remove_from.ensures) refl))
+returns c = let e = (sym (c.is_absent.ensures (token_from c.args.mem.now c.args.links.base c.args.links.size (port_of c.args.mem.now c.args.i 1)) (rw c.port_of-l.ensures.0 at c.token_of.ensures)) ∙ c.if-is_absent.false) in (rw e refl, rw c.if-dry.false (c.remove_from-2.ensures ∙ rw (c.port_of-l.ensures.0, c.remove_from.ensures) refl))

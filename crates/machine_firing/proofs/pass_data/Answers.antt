@@ -8,7 +8,7 @@ use Rattle.machine_firing.proofs.pass_data.Goals as goal
 
 pub returns-then-is_absent : goal.returns-then-is_absent
 unfolding Done
-returns-then-is_absent c = let e = (sym (c.is_absent.ensures (token_from c.args.mem.now c.args.base c.args.size (port_of c.args.mem.now c.args.i c.args.port)) (rw c.port_of-l.ensures at c.token_of-token.ensures)) ∙ c.if-is_absent.true) in (rw e refl, refl)
+returns-then-is_absent c = let e = (sym (c.is_absent.ensures (token_from c.args.mem.now c.args.links.base c.args.links.size (port_of c.args.mem.now c.args.i c.args.port)) (rw c.port_of-l.ensures.0 at c.token_of-token.ensures)) ∙ c.if-is_absent.true) in (rw e refl, refl)
 
 pub returns : goal.returns
-returns c = let e = (sym (c.is_absent.ensures (token_from c.args.mem.now c.args.base c.args.size (port_of c.args.mem.now c.args.i c.args.port)) (rw c.port_of-l.ensures at c.token_of-token.ensures)) ∙ c.if-is_absent.false) in rw e (rw (c.port_of-l.ensures, (rw c.port_of-l.ensures at c.token_of-token.ensures)) at c.give_one.ensures)
+returns c = let e = (sym (c.is_absent.ensures (token_from c.args.mem.now c.args.links.base c.args.links.size (port_of c.args.mem.now c.args.i c.args.port)) (rw c.port_of-l.ensures.0 at c.token_of-token.ensures)) ∙ c.if-is_absent.false) in rw e (rw (c.port_of-l.ensures.0, (rw c.port_of-l.ensures.0 at c.token_of-token.ensures)) at c.give_one.ensures)

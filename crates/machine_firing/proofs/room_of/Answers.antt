@@ -7,7 +7,7 @@ use Rattle.machine_firing.proofs.room_of.Goals as goal
 
 pub returns-then-l-lt-LINKS : goal.returns-then-l-lt-LINKS
 unfolding room_from
-returns-then-l-lt-LINKS c = let k : c.link_from-a.result + c.args.size - c.link_from-a.result ≡ c.args.size = omega arith in simp (lt-ltb c.args.l 3105 c.if-l-lt-LINKS.true) (rw (k, c.link_from-a.ensures.0) at c.room.ensures)
+returns-then-l-lt-LINKS c = let k : c.link_from-a.result + c.args.links.size - c.link_from-a.result ≡ c.args.links.size = omega arith in simp (lt-ltb c.args.l 3105 c.if-l-lt-LINKS.true) (rw (k, c.link_from-a.ensures.0) at c.room.ensures)
 
 pub returns : goal.returns
 unfolding room_from

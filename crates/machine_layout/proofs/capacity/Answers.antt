@@ -19,12 +19,12 @@ returns-then-mem-eq0 c = (rw (none-there c.args.mem.now c.if-mem-eq0.true) refl,
 
 pub returns-then-c-lt1 : goal.returns-then-c-lt1
 unfolding capacity_in
-returns-then-c-lt1 c = (simp (lt-leb 1 (capacity_byte c.args.mem.now) (omega (arith, c.byte_of-c.ensures.0))), omega arith, omega arith)
+returns-then-c-lt1 c = (simp (lt-leb 1 (capacity_byte c.args.mem.now) (omega (arith, c.from-c.ensures))), omega arith, omega arith)
 
 pub returns-then-c-gt-CAPACITY : goal.returns-then-c-gt-CAPACITY
 unfolding capacity_in
-returns-then-c-gt-CAPACITY c = (simp (le-leb 1 (capacity_byte c.args.mem.now) (omega (arith, c.byte_of-c.ensures.0)), lt-leb (capacity_byte c.args.mem.now) 16 (omega (arith, c.byte_of-c.ensures.0))), omega arith, omega arith)
+returns-then-c-gt-CAPACITY c = (simp (le-leb 1 (capacity_byte c.args.mem.now) (omega (arith, c.from-c.ensures)), lt-leb (capacity_byte c.args.mem.now) 16 (omega (arith, c.from-c.ensures))), omega arith, omega arith)
 
 pub returns : goal.returns
 unfolding capacity_in
-returns c = (simp (le-leb 1 (capacity_byte c.args.mem.now) (omega (arith, c.byte_of-c.ensures.0)), le-leb (capacity_byte c.args.mem.now) 16 (omega (arith, c.byte_of-c.ensures.0))) c.byte_of-c.ensures.0, omega arith, omega arith)
+returns c = (simp (le-leb 1 (capacity_byte c.args.mem.now) (omega (arith, c.from-c.ensures)), le-leb (capacity_byte c.args.mem.now) 16 (omega (arith, c.from-c.ensures))) c.from-c.ensures, omega arith, omega arith)

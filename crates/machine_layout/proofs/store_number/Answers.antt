@@ -1,4 +1,5 @@
-use mathlib.Core.Path.{refl}
+use mathlib.Core.Path.{◌≡◌, refl}
+use Prim.Native.Nat.{◌/◌, ◌%◌}
 use lib.ListN.{length-set}
 use Rattle.machine_layout.specs.Layout.{stored16}
 use native.Mathlib.Omega.{arith}
@@ -12,4 +13,6 @@ shape_of-mem c = simp length-set
 
 pub returns : goal.returns
 unfolding stored16
-returns c = refl
+returns c =
+    let high : c.args.x / 256 % 256 ≡ c.args.x / 256 = omega arith in
+    rw (c.to_le_bytes.ensures, high) refl

@@ -6,4 +6,4 @@ pub returns-then-progress-eq0 : goal.returns-then-progress-eq0
 returns-then-progress-eq0 c = rw (c.width_of.ensures, c.if-progress-eq0.true) refl
 
 pub returns : goal.returns
-returns c = rw (c.width_of-2.ensures, c.refusal_number.ensures, ne_eqb c.args.progress.line 0 c.if-progress-eq0.false) refl
+returns c = rw (c.width_of-2.ensures, c.from.ensures, ne_eqb c.args.progress.line 0 c.if-progress-eq0.false) refl

@@ -26,12 +26,6 @@ shape_of-users-then-not-note_side-2 c = c.note_side-in-loop-j.ensures.0 ∙ c.no
 pub returns-then-not-note_side-2 : goal.returns-then-not-note_side-2
 returns-then-not-note_side-2 c = (c.note_side-in-loop-j.ensures.0 ∙ c.note_side.ensures.0 ∙ c.loop-j.invariant.1, λ t. absurd (false≢true t))
 
-pub overflow_add-j : goal.overflow_add-j
-overflow_add-j c = omega arith
-
-pub loop-j-smaller : goal.loop-j-smaller
-loop-j-smaller c = omega arith
-
 pub loop-j-preserved : goal.loop-j-preserved
 loop-j-preserved c =
     let takers = c.note_side.ensures.1 (c.if-not-note_side.false) (filled-upto c.loop-j.users c.args.mem.now (6 * c.loop-j.j) (6 * c.loop-j.j + 3 * 0) (omega arith) c.loop-j.invariant.2) in

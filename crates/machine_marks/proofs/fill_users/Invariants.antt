@@ -6,6 +6,3 @@ use Rattle.machine_marks.proofs.fill_users.Given as goal
 
 abbrev pub invariant-loop-j : goal.invariant-loop-j
 invariant-loop-j l = (l.j ≤ l.n) × (length l.users ≡ length l.initial.users) × Filled l.users l.mem (6 * l.j)
-
-abbrev pub decreases-loop-j : goal.decreases-loop-j
-decreases-loop-j l = l.n - l.j

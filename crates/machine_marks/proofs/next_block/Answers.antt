@@ -1,5 +1,5 @@
 use native.Mathlib.Omega.{arith}
-use Prim.Native.Nat.{◌-◌}
+use mathlib.Core.Path.{◌≡◌}
 use Rattle.machine_marks.specs.Held.{blank-more}
 use Rattle.machine_marks.proofs.next_block.Goals as goal
 
@@ -15,14 +15,8 @@ bounds-awake-b c = omega arith
 pub returns-then-awake-b-ne0 : goal.returns-then-awake-b-ne0
 returns-then-awake-b-ne0 c = (omega arith, omega arith, c.loop-b.invariant.2, λ h. c.if-awake-b-ne0.true)
 
-pub overflow_add-b : goal.overflow_add-b
-overflow_add-b c = omega arith
-
-pub loop-b-smaller : goal.loop-b-smaller
-loop-b-smaller c = omega arith
-
 pub loop-b-preserved : goal.loop-b-preserved
 loop-b-preserved c = (omega arith, omega arith, blank-more c.args.awake.now c.args.from c.loop-b.b c.loop-b.invariant.2 (omega arith))
 
 pub returns : goal.returns
-returns c = (omega arith, omega arith, c.loop-b.invariant.2, λ h. absurd (omega arith))
+returns c = let e : c.loop-b.b ≡ 16 = omega arith in (omega arith, omega arith, rw e at c.loop-b.invariant.2, λ h. absurd (omega arith))

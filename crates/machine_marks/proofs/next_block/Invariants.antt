@@ -4,6 +4,3 @@ use Rattle.machine_marks.proofs.next_block.Given as goal
 
 abbrev pub invariant-loop-b : goal.invariant-loop-b
 invariant-loop-b l = (l.from ≤ l.b) × (l.b ≤ 16) × Blank l.awake l.from l.b
-
-abbrev pub decreases-loop-b : goal.decreases-loop-b
-decreases-loop-b l = 16 - l.b

@@ -8,8 +8,8 @@ use Rattle.machine_marks.proofs.note.Goals as goal
 pub returns-then-users-at : goal.returns-then-users-at
 returns-then-users-at c = noted-none c.args.users.now c.args.l c.args.side c.args.j _ (λ e. leb-true 3105 c.args.l e)
 
-pub returns-then-user_number-eq-NO_USER : goal.returns-then-user_number-eq-NO_USER
-returns-then-user_number-eq-NO_USER c = noted-set c.args.users.now c.args.l c.args.side c.args.j (sym c.user_number.ensures.0 ∙ c.if-user_number-eq-NO_USER.true) (omega arith)
+pub returns-then-users-at-2 : goal.returns-then-users-at-2
+returns-then-users-at-2 c = noted-set c.args.users.now c.args.l c.args.side c.args.j (c.if-users-at-2.true) (omega arith)
 
 pub returns : goal.returns
 returns c = noted-none c.args.users.now c.args.l c.args.side c.args.j false (λ e. absurd (false≢true e))

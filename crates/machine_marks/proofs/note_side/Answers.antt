@@ -20,24 +20,18 @@ port_of-l-requires c = omega arith
 pub note-requires : goal.note-requires
 note-requires c = omega arith
 
-pub overflow_add-k : goal.overflow_add-k
-overflow_add-k c = omega arith
-
-pub loop-k-smaller : goal.loop-k-smaller
-loop-k-smaller c = omega arith
-
 pub loop-k-preserved : goal.loop-k-preserved
 loop-k-preserved c = (
   omega arith,
   c.note.ensures.len ∙ c.loop-k.invariant.1,
-  λ f. filled-port c.loop-k.users c.note.new.users c.args.mem.now c.args.j c.args.side c.loop-k.k c.note.result (omega arith) (omega arith) (omega arith) (c.loop-k.invariant.2 f) (rw c.port_of-l.ensures.0 at c.note.ensures) c.if-note.true,
+  λ f. filled-port c.loop-k.users c.note.new.users c.args.mem.now c.args.j c.args.side c.loop-k.k c.note.result (omega arith) (omega arith) (omega arith) (c.loop-k.invariant.2 f) (rw c.port_of-l.ensures.0 at c.note.ensures) c.if-not-note.false,
 )
 
-pub shape_of-users-else-note : goal.shape_of-users-else-note
-shape_of-users-else-note c = c.note.ensures.len ∙ c.loop-k.invariant.1
+pub shape_of-users-then-not-note : goal.shape_of-users-then-not-note
+shape_of-users-then-not-note c = c.note.ensures.len ∙ c.loop-k.invariant.1
 
-pub returns-else-note : goal.returns-else-note
-returns-else-note c = (c.note.ensures.len ∙ c.loop-k.invariant.1, λ t. absurd (false≢true t))
+pub returns-then-not-note : goal.returns-then-not-note
+returns-then-not-note c = (c.note.ensures.len ∙ c.loop-k.invariant.1, λ t. absurd (false≢true t))
 
 pub shape_of-users : goal.shape_of-users
 shape_of-users c = c.loop-k.invariant.1

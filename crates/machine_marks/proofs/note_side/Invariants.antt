@@ -6,6 +6,3 @@ use Rattle.machine_marks.proofs.note_side.Given as goal
 
 abbrev pub invariant-loop-k : goal.invariant-loop-k
 invariant-loop-k l = (l.k ≤ 3) × (length l.users ≡ length l.initial.users) × (Filled l.initial.users l.mem (6 * l.j + 3 * l.side) → Filled l.users l.mem (6 * l.j + 3 * l.side + l.k))
-
-abbrev pub decreases-loop-k : goal.decreases-loop-k
-decreases-loop-k l = 3 - l.k

@@ -10,9 +10,6 @@ kept : (r : Bool) {A : Type 0} (x m : A) → pick (r && not true) x m ≡ m
 kept true x m = refl
 kept false x m = refl
 
-pub fire_or_tell-requires : goal.fire_or_tell-requires
-fire_or_tell-requires c = c.requires
-
 pub returns : goal.returns
 unfolding Done
 returns c = (c.fire_or_tell.ensures.0, c.fire_or_tell.ensures.1 ∙ kept c.fire_or_tell.result _ _)

@@ -19,27 +19,18 @@ again : (m : List ℕ) (base size l w : ℕ) → w ≡ word_or (token_from m bas
 unfolding token_from
 again m base size l w e = rw (e, token-of-word (head_from m base size l)) refl
 
-pub token_of-a-requires : goal.token_of-a-requires
-token_of-a-requires c = (c.requires.1, c.requires.2, c.requires.3)
-
 pub returns-then-is_absent : goal.returns-then-is_absent
 unfolding binary_by
-returns-then-is_absent c = rw (sym (c.is_absent.ensures (token_from c.args.mem.now c.args.base c.args.size (port_of c.args.mem.now c.args.i 0)) (rw c.port_of-first.ensures at c.token_of-a.ensures)) ∙ c.if-is_absent.true) (moves-idle c.args.mem.now c.args.base c.args.size c.args.i c.args.dry)
-
-pub token_of-b-requires : goal.token_of-b-requires
-token_of-b-requires c = (c.requires.1, c.requires.2, c.requires.3)
+returns-then-is_absent c = rw (sym (c.is_absent.ensures (token_from c.args.mem.now c.args.links.base c.args.links.size (port_of c.args.mem.now c.args.i 0)) (rw c.port_of-first.ensures.0 at c.token_of-a.ensures)) ∙ c.if-is_absent.true) (moves-idle c.args.mem.now c.args.links.base c.args.links.size c.args.i c.args.dry)
 
 pub returns-then-is_absent-2 : goal.returns-then-is_absent-2
 unfolding binary_by
-returns-then-is_absent-2 c = rw ((sym (c.is_absent.ensures (token_from c.args.mem.now c.args.base c.args.size (port_of c.args.mem.now c.args.i 0)) (rw c.port_of-first.ensures at c.token_of-a.ensures)) ∙ c.if-is_absent.false), (sym (c.is_absent-2.ensures (token_from c.args.mem.now c.args.base c.args.size (port_of c.args.mem.now c.args.i 1)) (rw c.port_of-second.ensures at c.token_of-b.ensures)) ∙ c.if-is_absent-2.true)) (moves-idle c.args.mem.now c.args.base c.args.size c.args.i c.args.dry)
-
-pub give_one-requires : goal.give_one-requires
-give_one-requires c = c.requires
+returns-then-is_absent-2 c = rw ((sym (c.is_absent.ensures (token_from c.args.mem.now c.args.links.base c.args.links.size (port_of c.args.mem.now c.args.i 0)) (rw c.port_of-first.ensures.0 at c.token_of-a.ensures)) ∙ c.if-is_absent.false), (sym (c.is_absent-2.ensures (token_from c.args.mem.now c.args.links.base c.args.links.size (port_of c.args.mem.now c.args.i 1)) (rw c.port_of-second.ensures.0 at c.token_of-b.ensures)) ∙ c.if-is_absent-2.true)) (moves-idle c.args.mem.now c.args.links.base c.args.links.size c.args.i c.args.dry)
 
 pub returns : goal.returns
 unfolding binary_by
 returns c =
-    let e = (sym (c.is_absent.ensures (token_from c.args.mem.now c.args.base c.args.size (port_of c.args.mem.now c.args.i 0)) (rw c.port_of-first.ensures at c.token_of-a.ensures)) ∙ c.if-is_absent.false) in
-    let f = (sym (c.is_absent-2.ensures (token_from c.args.mem.now c.args.base c.args.size (port_of c.args.mem.now c.args.i 1)) (rw c.port_of-second.ensures at c.token_of-b.ensures)) ∙ c.if-is_absent-2.false) in
-    let w : c.applied_to-word.result ≡ word_or (applied c.args.code (token_from c.args.mem.now c.args.base c.args.size (port_of c.args.mem.now c.args.i 0)) (token_from c.args.mem.now c.args.base c.args.size (port_of c.args.mem.now c.args.i 1))) = c.applied_to-word.ensures ∙ rw (again c.args.mem.now c.args.base c.args.size _ _ (rw c.port_of-first.ensures at c.token_of-a.ensures), again c.args.mem.now c.args.base c.args.size _ _ (rw c.port_of-second.ensures at c.token_of-b.ensures)) refl in
-    rw (e, f) (gives_one c.args.mem.now c.give_one.new.mem c.args.base c.args.size c.args.i c.args.dry c.give_one.result true true false refl (applied c.args.code (token_from c.args.mem.now c.args.base c.args.size (port_of c.args.mem.now c.args.i 0)) (token_from c.args.mem.now c.args.base c.args.size (port_of c.args.mem.now c.args.i 1))) (register_of c.args.mem.now c.args.i) (applied-there c.args.code (token_from c.args.mem.now c.args.base c.args.size (port_of c.args.mem.now c.args.i 0)) (token_from c.args.mem.now c.args.base c.args.size (port_of c.args.mem.now c.args.i 1)) e f) (rw (c.port_of-first.ensures, c.port_of-second.ensures, w) at c.give_one.ensures))
+    let e = (sym (c.is_absent.ensures (token_from c.args.mem.now c.args.links.base c.args.links.size (port_of c.args.mem.now c.args.i 0)) (rw c.port_of-first.ensures.0 at c.token_of-a.ensures)) ∙ c.if-is_absent.false) in
+    let f = (sym (c.is_absent-2.ensures (token_from c.args.mem.now c.args.links.base c.args.links.size (port_of c.args.mem.now c.args.i 1)) (rw c.port_of-second.ensures.0 at c.token_of-b.ensures)) ∙ c.if-is_absent-2.false) in
+    let w : c.applied_to-word.result ≡ word_or (applied c.args.code (token_from c.args.mem.now c.args.links.base c.args.links.size (port_of c.args.mem.now c.args.i 0)) (token_from c.args.mem.now c.args.links.base c.args.links.size (port_of c.args.mem.now c.args.i 1))) = c.applied_to-word.ensures ∙ rw (again c.args.mem.now c.args.links.base c.args.links.size _ _ (rw c.port_of-first.ensures.0 at c.token_of-a.ensures), again c.args.mem.now c.args.links.base c.args.links.size _ _ (rw c.port_of-second.ensures.0 at c.token_of-b.ensures)) refl in
+    rw (e, f) (gives_one c.args.mem.now c.give_one.new.mem c.args.links.base c.args.links.size c.args.i c.args.dry c.give_one.result true true false refl (applied c.args.code (token_from c.args.mem.now c.args.links.base c.args.links.size (port_of c.args.mem.now c.args.i 0)) (token_from c.args.mem.now c.args.links.base c.args.links.size (port_of c.args.mem.now c.args.i 1))) (register_of c.args.mem.now c.args.i) (applied-there c.args.code (token_from c.args.mem.now c.args.links.base c.args.links.size (port_of c.args.mem.now c.args.i 0)) (token_from c.args.mem.now c.args.links.base c.args.links.size (port_of c.args.mem.now c.args.i 1)) e f) (rw (c.port_of-first.ensures.0, c.port_of-second.ensures.0, w) at c.give_one.ensures))

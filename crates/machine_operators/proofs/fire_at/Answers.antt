@@ -9,9 +9,6 @@ wet : (r : Bool) {A : Type 0} (x m : A) → pick (r && not false) x m ≡ pick r
 wet true x m = refl
 wet false x m = refl
 
-pub fire_or_tell-requires : goal.fire_or_tell-requires
-fire_or_tell-requires c = c.requires
-
 pub returns : goal.returns
 unfolding fired_from Done
 returns c = (c.fire_or_tell.ensures.0, c.fire_or_tell.ensures.1 ∙ wet c.fire_or_tell.result _ _ ∙ rw c.fire_or_tell.ensures.0 refl)

@@ -8,14 +8,11 @@ use Rattle.machine_firing.specs.Moves.{Done, next_register, input}
 use Rattle.machine_firing.specs.MoveLaws.{moved-register, completed}
 use Rattle.machine_operators.proofs.fire_or_tell.Goals as goal
 
-pub fs_gate-requires : goal.fs_gate-requires
-fs_gate-requires c = c.requires
-
 pub returns-then-kind-eq-FS : goal.returns-then-kind-eq-FS
 unfolding able_from plan_from decision_from
 returns-then-kind-eq-FS c =
     let k : kind_byte c.args.mem.now c.args.i ≡ 20 = rw c.operator_at.ensures at c.if-kind-eq-FS.true in
-    rw (k, decide-FS (input c.args.mem.now c.args.base c.args.size c.args.i 0) (input c.args.mem.now c.args.base c.args.size c.args.i 1) (input c.args.mem.now c.args.base c.args.size c.args.i 2) (register_of c.args.mem.now c.args.i)) c.fs_gate.ensures
+    rw (k, decide-FS (input c.args.mem.now c.args.links.base c.args.links.size c.args.i 0) (input c.args.mem.now c.args.links.base c.args.links.size c.args.i 1) (input c.args.mem.now c.args.links.base c.args.links.size c.args.i 2) (register_of c.args.mem.now c.args.i)) c.fs_gate.ensures
 
 pub returns-then-not-move_tokens : goal.returns-then-not-move_tokens
 unfolding Done able_from plan_from decision_from
@@ -36,8 +33,8 @@ unfolding Done able_from plan_from decision_from
 returns c =
     let e : c.move_tokens.result ≡ true = c.if-not-move_tokens.false in
     let M = rw c.operator_at.ensures at c.move_tokens.ensures in
-    let f : c.move_tokens.new.mem ≡ moved_from c.args.mem.now c.args.base c.args.size (plan_from c.args.mem.now c.args.base c.args.size c.args.i) = M.0.1 ∙ rw (c.if-dry.false, e) refl in
-    let g : c.next_register-register.result ≡ word_or (next_register (kind_byte c.args.mem.now c.args.i) (register_of c.args.mem.now c.args.i)) = c.next_register-register.ensures ∙ rw (c.operator_at.ensures, f, moved-register c.args.mem.now c.args.base c.args.size c.requires.3 (plan_from c.args.mem.now c.args.base c.args.size c.args.i) c.requires.0 c.args.i c.requires.4) refl in (
+    let f : c.move_tokens.new.mem ≡ moved_from c.args.mem.now c.args.links.base c.args.links.size (plan_from c.args.mem.now c.args.links.base c.args.links.size c.args.i) = M.0.1 ∙ rw (c.if-dry.false, e) refl in
+    let g : c.next_register-register.result ≡ word_or (next_register (kind_byte c.args.mem.now c.args.i) (register_of c.args.mem.now c.args.i)) = c.next_register-register.ensures ∙ rw (c.operator_at.ensures, f, moved-register c.args.mem.now c.args.links.base c.args.links.size c.requires.1 (plan_from c.args.mem.now c.args.links.base c.args.links.size c.args.i) c.requires.0 c.args.i c.requires.2) refl in (
       sym e ∙ M.0.0,
-      rw c.if-dry.false (c.set_register.ensures ∙ rw (g, f) (completed c.args.mem.now c.args.base c.args.size c.args.i (next_register (kind_byte c.args.mem.now c.args.i) (register_of c.args.mem.now c.args.i)) (decision_from c.args.mem.now c.args.base c.args.size c.args.i) (sym M.0.0 ∙ e) M.1)),
+      rw c.if-dry.false (c.set_register.ensures ∙ rw (g, f) (completed c.args.mem.now c.args.links.base c.args.links.size c.args.i (next_register (kind_byte c.args.mem.now c.args.i) (register_of c.args.mem.now c.args.i)) (decision_from c.args.mem.now c.args.links.base c.args.links.size c.args.i) (sym M.0.0 ∙ e) M.1)),
     )

@@ -1,7 +1,7 @@
+use Rattle.std.specs.Prelude.{Some, None}
 use native.Mathlib.Omega.{arith}
 use mathlib.Core.Path.{sym, ◌∙◌, refl}
 use mathlib.Core.Bool.{true, false}
-use Rattle.value.specs.declared.Decoded.TheVariants.{Valid, Invalid}
 use Rattle.value.specs.Bytes.{word_of}
 use Rattle.network.specs.Values.{true-value, false-value, err-value}
 use Rattle.machine_gates.specs.Gates.{ic_by}
@@ -10,62 +10,38 @@ use Rattle.machine_firing.specs.Moves.{input}
 use Rattle.machine_firing.specs.MoveLaws.{moves-idle, gives-second, gives-third}
 use Rattle.machine_operators.proofs.ic_gate.Goals as goal
 
-pub token_of-control-requires : goal.token_of-control-requires
-token_of-control-requires c = (c.requires.1, c.requires.2, c.requires.3)
-
-pub token_of-iter2-requires : goal.token_of-iter2-requires
-token_of-iter2-requires c = (c.requires.1, c.requires.2, c.requires.3)
-
-pub token_of-iter3-requires : goal.token_of-iter3-requires
-token_of-iter3-requires c = (c.requires.1, c.requires.2, c.requires.3)
-
-pub give_two-requires : goal.give_two-requires
-give_two-requires c = (c.requires.0, c.requires.1, c.requires.2, c.requires.3, c.requires.4, omega arith)
-
-pub returns-then-both : goal.returns-then-both
+pub returns-then-is_true : goal.returns-then-is_true
 unfolding ic_by word_of
-returns-then-both c =
-    rw (sym (rw (c.is_true.ensures (input c.args.mem.now c.args.base c.args.size c.args.i 0) (rw c.port_of-first.ensures at c.token_of-control.ensures), c.is_true-2.ensures (input c.args.mem.now c.args.base c.args.size c.args.i 1) (rw c.port_of-second.ensures at c.token_of-iter2.ensures)) at c.both.ensures) ∙ c.if-both.true)
-    (gives-second c.args.mem.now c.give_two.new.mem c.args.base c.args.size c.args.i c.args.dry c.give_two.result true true false refl (Valid true-value) (Valid true-value) Invalid (register_of c.args.mem.now c.args.i) refl refl refl (rw (c.port_of-first.ensures, c.port_of-second.ensures) at c.give_two.ensures))
+returns-then-is_true c =
+    rw (rw (c.is_true.ensures (input c.args.mem.now c.args.links.base c.args.links.size c.args.i 0) (rw c.port_of-first.ensures.0 at c.token_of-control.ensures), c.is_true-2.ensures (input c.args.mem.now c.args.links.base c.args.links.size c.args.i 1) (rw c.port_of-second.ensures.0 at c.token_of-iter2.ensures)) at c.if-is_true.true)
+    (gives-second c.args.mem.now c.give_two.new.mem c.args.links.base c.args.links.size c.args.i c.args.dry c.give_two.result true true false refl (Some true-value) (Some true-value) None (register_of c.args.mem.now c.args.i) refl refl refl (rw (c.port_of-first.ensures.0, c.port_of-second.ensures.0) at c.give_two.ensures))
 
-pub give_two-requires-then-both-2 : goal.give_two-requires-then-both-2
-give_two-requires-then-both-2 c = (c.requires.0, c.requires.1, c.requires.2, c.requires.3, c.requires.4, omega arith)
-
-pub returns-then-both-2 : goal.returns-then-both-2
+pub returns-then-is_true-counts_false : goal.returns-then-is_true-counts_false
 unfolding ic_by word_of
-returns-then-both-2 c =
-    rw (sym (rw (c.is_true.ensures (input c.args.mem.now c.args.base c.args.size c.args.i 0) (rw c.port_of-first.ensures at c.token_of-control.ensures), c.is_true-2.ensures (input c.args.mem.now c.args.base c.args.size c.args.i 1) (rw c.port_of-second.ensures at c.token_of-iter2.ensures)) at c.both.ensures) ∙ c.if-both.false, sym (rw (c.is_true-3.ensures (input c.args.mem.now c.args.base c.args.size c.args.i 0) (rw c.port_of-first.ensures at c.token_of-control.ensures), c.counts_false.ensures (input c.args.mem.now c.args.base c.args.size c.args.i 1) (rw c.port_of-second.ensures at c.token_of-iter2.ensures)) at c.both-2.ensures) ∙ c.if-both-2.true)
-    (gives-third c.args.mem.now c.give_two-then-both-2.new.mem c.args.base c.args.size c.args.i c.args.dry c.give_two-then-both-2.result true true false refl (Valid false-value) Invalid (Valid true-value) (register_of c.args.mem.now c.args.i) refl refl refl (rw (c.port_of-first.ensures, c.port_of-second.ensures) at c.give_two-then-both-2.ensures))
+returns-then-is_true-counts_false c =
+    rw (rw (c.is_true.ensures (input c.args.mem.now c.args.links.base c.args.links.size c.args.i 0) (rw c.port_of-first.ensures.0 at c.token_of-control.ensures), c.is_true-2.ensures (input c.args.mem.now c.args.links.base c.args.links.size c.args.i 1) (rw c.port_of-second.ensures.0 at c.token_of-iter2.ensures)) at c.if-is_true.false, rw (c.is_true-3.ensures (input c.args.mem.now c.args.links.base c.args.links.size c.args.i 0) (rw c.port_of-first.ensures.0 at c.token_of-control.ensures), c.counts_false.ensures (input c.args.mem.now c.args.links.base c.args.links.size c.args.i 1) (rw c.port_of-second.ensures.0 at c.token_of-iter2.ensures)) at c.if-is_true-counts_false.true)
+    (gives-third c.args.mem.now c.give_two-then-is_true-counts_false.new.mem c.args.links.base c.args.links.size c.args.i c.args.dry c.give_two-then-is_true-counts_false.result true true false refl (Some false-value) None (Some true-value) (register_of c.args.mem.now c.args.i) refl refl refl (rw (c.port_of-first.ensures.0, c.port_of-second.ensures.0) at c.give_two-then-is_true-counts_false.ensures))
 
-pub give_two-requires-then-both-3 : goal.give_two-requires-then-both-3
-give_two-requires-then-both-3 c = (c.requires.0, c.requires.1, c.requires.2, c.requires.3, c.requires.4, omega arith)
-
-pub returns-then-both-3 : goal.returns-then-both-3
+pub returns-then-is_false-is_true : goal.returns-then-is_false-is_true
 unfolding ic_by word_of
-returns-then-both-3 c =
-    rw (sym (rw (c.is_true.ensures (input c.args.mem.now c.args.base c.args.size c.args.i 0) (rw c.port_of-first.ensures at c.token_of-control.ensures), c.is_true-2.ensures (input c.args.mem.now c.args.base c.args.size c.args.i 1) (rw c.port_of-second.ensures at c.token_of-iter2.ensures)) at c.both.ensures) ∙ c.if-both.false, sym (rw (c.is_true-3.ensures (input c.args.mem.now c.args.base c.args.size c.args.i 0) (rw c.port_of-first.ensures at c.token_of-control.ensures), c.counts_false.ensures (input c.args.mem.now c.args.base c.args.size c.args.i 1) (rw c.port_of-second.ensures at c.token_of-iter2.ensures)) at c.both-2.ensures) ∙ c.if-both-2.false, sym (rw (c.is_false.ensures (input c.args.mem.now c.args.base c.args.size c.args.i 0) (rw c.port_of-first.ensures at c.token_of-control.ensures), c.is_true-4.ensures (input c.args.mem.now c.args.base c.args.size c.args.i 2) (rw c.port_of-third.ensures at c.token_of-iter3.ensures)) at c.both-3.ensures) ∙ c.if-both-3.true)
-    (gives-second c.args.mem.now c.give_two-then-both-3.new.mem c.args.base c.args.size c.args.i c.args.dry c.give_two-then-both-3.result true false true refl (Valid true-value) (Valid false-value) Invalid (register_of c.args.mem.now c.args.i) refl refl refl (rw (c.port_of-first.ensures, c.port_of-third.ensures) at c.give_two-then-both-3.ensures))
+returns-then-is_false-is_true c =
+    rw (rw (c.is_true.ensures (input c.args.mem.now c.args.links.base c.args.links.size c.args.i 0) (rw c.port_of-first.ensures.0 at c.token_of-control.ensures), c.is_true-2.ensures (input c.args.mem.now c.args.links.base c.args.links.size c.args.i 1) (rw c.port_of-second.ensures.0 at c.token_of-iter2.ensures)) at c.if-is_true.false, rw (c.is_true-3.ensures (input c.args.mem.now c.args.links.base c.args.links.size c.args.i 0) (rw c.port_of-first.ensures.0 at c.token_of-control.ensures), c.counts_false.ensures (input c.args.mem.now c.args.links.base c.args.links.size c.args.i 1) (rw c.port_of-second.ensures.0 at c.token_of-iter2.ensures)) at c.if-is_true-counts_false.false, rw (c.is_false.ensures (input c.args.mem.now c.args.links.base c.args.links.size c.args.i 0) (rw c.port_of-first.ensures.0 at c.token_of-control.ensures), c.is_true-4.ensures (input c.args.mem.now c.args.links.base c.args.links.size c.args.i 2) (rw c.port_of-third.ensures.0 at c.token_of-iter3.ensures)) at c.if-is_false-is_true.true)
+    (gives-second c.args.mem.now c.give_two-then-is_false-is_true.new.mem c.args.links.base c.args.links.size c.args.i c.args.dry c.give_two-then-is_false-is_true.result true false true refl (Some true-value) (Some false-value) None (register_of c.args.mem.now c.args.i) refl refl refl (rw (c.port_of-first.ensures.0, c.port_of-third.ensures.0) at c.give_two-then-is_false-is_true.ensures))
 
-pub give_two-requires-then-both-4 : goal.give_two-requires-then-both-4
-give_two-requires-then-both-4 c = (c.requires.0, c.requires.1, c.requires.2, c.requires.3, c.requires.4, omega arith)
-
-pub returns-then-both-4 : goal.returns-then-both-4
+pub returns-then-is_false-counts_false : goal.returns-then-is_false-counts_false
 unfolding ic_by word_of
-returns-then-both-4 c =
-    rw (sym (rw (c.is_true.ensures (input c.args.mem.now c.args.base c.args.size c.args.i 0) (rw c.port_of-first.ensures at c.token_of-control.ensures), c.is_true-2.ensures (input c.args.mem.now c.args.base c.args.size c.args.i 1) (rw c.port_of-second.ensures at c.token_of-iter2.ensures)) at c.both.ensures) ∙ c.if-both.false, sym (rw (c.is_true-3.ensures (input c.args.mem.now c.args.base c.args.size c.args.i 0) (rw c.port_of-first.ensures at c.token_of-control.ensures), c.counts_false.ensures (input c.args.mem.now c.args.base c.args.size c.args.i 1) (rw c.port_of-second.ensures at c.token_of-iter2.ensures)) at c.both-2.ensures) ∙ c.if-both-2.false, sym (rw (c.is_false.ensures (input c.args.mem.now c.args.base c.args.size c.args.i 0) (rw c.port_of-first.ensures at c.token_of-control.ensures), c.is_true-4.ensures (input c.args.mem.now c.args.base c.args.size c.args.i 2) (rw c.port_of-third.ensures at c.token_of-iter3.ensures)) at c.both-3.ensures) ∙ c.if-both-3.false, sym (rw (c.is_false-2.ensures (input c.args.mem.now c.args.base c.args.size c.args.i 0) (rw c.port_of-first.ensures at c.token_of-control.ensures), c.counts_false-2.ensures (input c.args.mem.now c.args.base c.args.size c.args.i 2) (rw c.port_of-third.ensures at c.token_of-iter3.ensures)) at c.both-4.ensures) ∙ c.if-both-4.true)
-    (gives-third c.args.mem.now c.give_two-then-both-4.new.mem c.args.base c.args.size c.args.i c.args.dry c.give_two-then-both-4.result true false true refl (Valid false-value) Invalid (Valid false-value) (register_of c.args.mem.now c.args.i) refl refl refl (rw (c.port_of-first.ensures, c.port_of-third.ensures) at c.give_two-then-both-4.ensures))
-
-pub give_two-requires-then-is_neither : goal.give_two-requires-then-is_neither
-give_two-requires-then-is_neither c = (c.requires.0, c.requires.1, c.requires.2, c.requires.3, c.requires.4, omega arith)
+returns-then-is_false-counts_false c =
+    rw (rw (c.is_true.ensures (input c.args.mem.now c.args.links.base c.args.links.size c.args.i 0) (rw c.port_of-first.ensures.0 at c.token_of-control.ensures), c.is_true-2.ensures (input c.args.mem.now c.args.links.base c.args.links.size c.args.i 1) (rw c.port_of-second.ensures.0 at c.token_of-iter2.ensures)) at c.if-is_true.false, rw (c.is_true-3.ensures (input c.args.mem.now c.args.links.base c.args.links.size c.args.i 0) (rw c.port_of-first.ensures.0 at c.token_of-control.ensures), c.counts_false.ensures (input c.args.mem.now c.args.links.base c.args.links.size c.args.i 1) (rw c.port_of-second.ensures.0 at c.token_of-iter2.ensures)) at c.if-is_true-counts_false.false, rw (c.is_false.ensures (input c.args.mem.now c.args.links.base c.args.links.size c.args.i 0) (rw c.port_of-first.ensures.0 at c.token_of-control.ensures), c.is_true-4.ensures (input c.args.mem.now c.args.links.base c.args.links.size c.args.i 2) (rw c.port_of-third.ensures.0 at c.token_of-iter3.ensures)) at c.if-is_false-is_true.false, rw (c.is_false-2.ensures (input c.args.mem.now c.args.links.base c.args.links.size c.args.i 0) (rw c.port_of-first.ensures.0 at c.token_of-control.ensures), c.counts_false-2.ensures (input c.args.mem.now c.args.links.base c.args.links.size c.args.i 2) (rw c.port_of-third.ensures.0 at c.token_of-iter3.ensures)) at c.if-is_false-counts_false.true)
+    (gives-third c.args.mem.now c.give_two-then-is_false-counts_false.new.mem c.args.links.base c.args.links.size c.args.i c.args.dry c.give_two-then-is_false-counts_false.result true false true refl (Some false-value) None (Some false-value) (register_of c.args.mem.now c.args.i) refl refl refl (rw (c.port_of-first.ensures.0, c.port_of-third.ensures.0) at c.give_two-then-is_false-counts_false.ensures))
 
 pub returns-then-is_neither : goal.returns-then-is_neither
 unfolding ic_by word_of
 returns-then-is_neither c =
-    rw (sym (rw (c.is_true.ensures (input c.args.mem.now c.args.base c.args.size c.args.i 0) (rw c.port_of-first.ensures at c.token_of-control.ensures), c.is_true-2.ensures (input c.args.mem.now c.args.base c.args.size c.args.i 1) (rw c.port_of-second.ensures at c.token_of-iter2.ensures)) at c.both.ensures) ∙ c.if-both.false, sym (rw (c.is_true-3.ensures (input c.args.mem.now c.args.base c.args.size c.args.i 0) (rw c.port_of-first.ensures at c.token_of-control.ensures), c.counts_false.ensures (input c.args.mem.now c.args.base c.args.size c.args.i 1) (rw c.port_of-second.ensures at c.token_of-iter2.ensures)) at c.both-2.ensures) ∙ c.if-both-2.false, sym (rw (c.is_false.ensures (input c.args.mem.now c.args.base c.args.size c.args.i 0) (rw c.port_of-first.ensures at c.token_of-control.ensures), c.is_true-4.ensures (input c.args.mem.now c.args.base c.args.size c.args.i 2) (rw c.port_of-third.ensures at c.token_of-iter3.ensures)) at c.both-3.ensures) ∙ c.if-both-3.false, sym (rw (c.is_false-2.ensures (input c.args.mem.now c.args.base c.args.size c.args.i 0) (rw c.port_of-first.ensures at c.token_of-control.ensures), c.counts_false-2.ensures (input c.args.mem.now c.args.base c.args.size c.args.i 2) (rw c.port_of-third.ensures at c.token_of-iter3.ensures)) at c.both-4.ensures) ∙ c.if-both-4.false, sym (c.is_neither.ensures (input c.args.mem.now c.args.base c.args.size c.args.i 0) (rw c.port_of-first.ensures at c.token_of-control.ensures)) ∙ c.if-is_neither.true)
-    (gives-third c.args.mem.now c.give_two-then-is_neither.new.mem c.args.base c.args.size c.args.i c.args.dry c.give_two-then-is_neither.result true false false refl (Valid false-value) Invalid (Valid err-value) (register_of c.args.mem.now c.args.i) refl refl refl (rw c.port_of-first.ensures at c.give_two-then-is_neither.ensures))
+    rw (rw (c.is_true.ensures (input c.args.mem.now c.args.links.base c.args.links.size c.args.i 0) (rw c.port_of-first.ensures.0 at c.token_of-control.ensures), c.is_true-2.ensures (input c.args.mem.now c.args.links.base c.args.links.size c.args.i 1) (rw c.port_of-second.ensures.0 at c.token_of-iter2.ensures)) at c.if-is_true.false, rw (c.is_true-3.ensures (input c.args.mem.now c.args.links.base c.args.links.size c.args.i 0) (rw c.port_of-first.ensures.0 at c.token_of-control.ensures), c.counts_false.ensures (input c.args.mem.now c.args.links.base c.args.links.size c.args.i 1) (rw c.port_of-second.ensures.0 at c.token_of-iter2.ensures)) at c.if-is_true-counts_false.false, rw (c.is_false.ensures (input c.args.mem.now c.args.links.base c.args.links.size c.args.i 0) (rw c.port_of-first.ensures.0 at c.token_of-control.ensures), c.is_true-4.ensures (input c.args.mem.now c.args.links.base c.args.links.size c.args.i 2) (rw c.port_of-third.ensures.0 at c.token_of-iter3.ensures)) at c.if-is_false-is_true.false, rw (c.is_false-2.ensures (input c.args.mem.now c.args.links.base c.args.links.size c.args.i 0) (rw c.port_of-first.ensures.0 at c.token_of-control.ensures), c.counts_false-2.ensures (input c.args.mem.now c.args.links.base c.args.links.size c.args.i 2) (rw c.port_of-third.ensures.0 at c.token_of-iter3.ensures)) at c.if-is_false-counts_false.false, sym (c.is_neither.ensures (input c.args.mem.now c.args.links.base c.args.links.size c.args.i 0) (rw c.port_of-first.ensures.0 at c.token_of-control.ensures)) ∙ c.if-is_neither.true)
+    (gives-third c.args.mem.now c.give_two-then-is_neither.new.mem c.args.links.base c.args.links.size c.args.i c.args.dry c.give_two-then-is_neither.result true false false refl (Some false-value) None (Some err-value) (register_of c.args.mem.now c.args.i) refl refl refl (rw c.port_of-first.ensures.0 at c.give_two-then-is_neither.ensures))
 
 pub returns : goal.returns
 unfolding ic_by
 returns c =
-    rw (sym (rw (c.is_true.ensures (input c.args.mem.now c.args.base c.args.size c.args.i 0) (rw c.port_of-first.ensures at c.token_of-control.ensures), c.is_true-2.ensures (input c.args.mem.now c.args.base c.args.size c.args.i 1) (rw c.port_of-second.ensures at c.token_of-iter2.ensures)) at c.both.ensures) ∙ c.if-both.false, sym (rw (c.is_true-3.ensures (input c.args.mem.now c.args.base c.args.size c.args.i 0) (rw c.port_of-first.ensures at c.token_of-control.ensures), c.counts_false.ensures (input c.args.mem.now c.args.base c.args.size c.args.i 1) (rw c.port_of-second.ensures at c.token_of-iter2.ensures)) at c.both-2.ensures) ∙ c.if-both-2.false, sym (rw (c.is_false.ensures (input c.args.mem.now c.args.base c.args.size c.args.i 0) (rw c.port_of-first.ensures at c.token_of-control.ensures), c.is_true-4.ensures (input c.args.mem.now c.args.base c.args.size c.args.i 2) (rw c.port_of-third.ensures at c.token_of-iter3.ensures)) at c.both-3.ensures) ∙ c.if-both-3.false, sym (rw (c.is_false-2.ensures (input c.args.mem.now c.args.base c.args.size c.args.i 0) (rw c.port_of-first.ensures at c.token_of-control.ensures), c.counts_false-2.ensures (input c.args.mem.now c.args.base c.args.size c.args.i 2) (rw c.port_of-third.ensures at c.token_of-iter3.ensures)) at c.both-4.ensures) ∙ c.if-both-4.false, sym (c.is_neither.ensures (input c.args.mem.now c.args.base c.args.size c.args.i 0) (rw c.port_of-first.ensures at c.token_of-control.ensures)) ∙ c.if-is_neither.false)
-    (moves-idle c.args.mem.now c.args.base c.args.size c.args.i c.args.dry)
+    rw (rw (c.is_true.ensures (input c.args.mem.now c.args.links.base c.args.links.size c.args.i 0) (rw c.port_of-first.ensures.0 at c.token_of-control.ensures), c.is_true-2.ensures (input c.args.mem.now c.args.links.base c.args.links.size c.args.i 1) (rw c.port_of-second.ensures.0 at c.token_of-iter2.ensures)) at c.if-is_true.false, rw (c.is_true-3.ensures (input c.args.mem.now c.args.links.base c.args.links.size c.args.i 0) (rw c.port_of-first.ensures.0 at c.token_of-control.ensures), c.counts_false.ensures (input c.args.mem.now c.args.links.base c.args.links.size c.args.i 1) (rw c.port_of-second.ensures.0 at c.token_of-iter2.ensures)) at c.if-is_true-counts_false.false, rw (c.is_false.ensures (input c.args.mem.now c.args.links.base c.args.links.size c.args.i 0) (rw c.port_of-first.ensures.0 at c.token_of-control.ensures), c.is_true-4.ensures (input c.args.mem.now c.args.links.base c.args.links.size c.args.i 2) (rw c.port_of-third.ensures.0 at c.token_of-iter3.ensures)) at c.if-is_false-is_true.false, rw (c.is_false-2.ensures (input c.args.mem.now c.args.links.base c.args.links.size c.args.i 0) (rw c.port_of-first.ensures.0 at c.token_of-control.ensures), c.counts_false-2.ensures (input c.args.mem.now c.args.links.base c.args.links.size c.args.i 2) (rw c.port_of-third.ensures.0 at c.token_of-iter3.ensures)) at c.if-is_false-counts_false.false, sym (c.is_neither.ensures (input c.args.mem.now c.args.links.base c.args.links.size c.args.i 0) (rw c.port_of-first.ensures.0 at c.token_of-control.ensures)) ∙ c.if-is_neither.false)
+    (moves-idle c.args.mem.now c.args.links.base c.args.links.size c.args.i c.args.dry)

@@ -9,23 +9,14 @@ use Rattle.machine_firing.specs.MoveLaws.{moves-idle, passes-data, drops-data}
 use Rattle.machine_gates.specs.Gates.{t_by}
 use Rattle.machine_operators.proofs.t_gate.Goals as goal
 
-pub token_of-control-requires : goal.token_of-control-requires
-token_of-control-requires c = (c.requires.1, c.requires.2, c.requires.3)
-
 pub returns-then-is_absent : goal.returns-then-is_absent
 unfolding t_by
-returns-then-is_absent c = rw (sym (c.is_absent.ensures (token_from c.args.mem.now c.args.base c.args.size (port_of c.args.mem.now c.args.i 0)) (rw c.port_of-first.ensures at c.token_of-control.ensures)) ∙ c.if-is_absent.true) (moves-idle c.args.mem.now c.args.base c.args.size c.args.i c.args.dry)
-
-pub pass_data-requires : goal.pass_data-requires
-pass_data-requires c = (c.requires.0, c.requires.1, c.requires.2, c.requires.3, c.requires.4, omega arith)
+returns-then-is_absent c = rw (sym (c.is_absent.ensures (token_from c.args.mem.now c.args.links.base c.args.links.size (port_of c.args.mem.now c.args.i 0)) (rw c.port_of-first.ensures.0 at c.token_of-control.ensures)) ∙ c.if-is_absent.true) (moves-idle c.args.mem.now c.args.links.base c.args.links.size c.args.i c.args.dry)
 
 pub returns-then-is_true : goal.returns-then-is_true
 unfolding t_by
-returns-then-is_true c = rw ((sym (c.is_absent.ensures (token_from c.args.mem.now c.args.base c.args.size (port_of c.args.mem.now c.args.i 0)) (rw c.port_of-first.ensures at c.token_of-control.ensures)) ∙ c.if-is_absent.false), (sym (c.is_true.ensures (token_from c.args.mem.now c.args.base c.args.size (port_of c.args.mem.now c.args.i 0)) (rw c.port_of-first.ensures at c.token_of-control.ensures)) ∙ c.if-is_true.true)) (passes-data c.args.mem.now c.pass_data.new.mem c.args.base c.args.size c.args.i c.args.dry c.pass_data.result true true false refl (token_from c.args.mem.now c.args.base c.args.size (port_of c.args.mem.now c.args.i 1)) (register_of c.args.mem.now c.args.i) (rw c.port_of-first.ensures at c.pass_data.ensures))
-
-pub drop_data-requires : goal.drop_data-requires
-drop_data-requires c = c.requires
+returns-then-is_true c = rw ((sym (c.is_absent.ensures (token_from c.args.mem.now c.args.links.base c.args.links.size (port_of c.args.mem.now c.args.i 0)) (rw c.port_of-first.ensures.0 at c.token_of-control.ensures)) ∙ c.if-is_absent.false), (sym (c.is_true.ensures (token_from c.args.mem.now c.args.links.base c.args.links.size (port_of c.args.mem.now c.args.i 0)) (rw c.port_of-first.ensures.0 at c.token_of-control.ensures)) ∙ c.if-is_true.true)) (passes-data c.args.mem.now c.pass_data.new.mem c.args.links.base c.args.links.size c.args.i c.args.dry c.pass_data.result true true false refl (token_from c.args.mem.now c.args.links.base c.args.links.size (port_of c.args.mem.now c.args.i 1)) (register_of c.args.mem.now c.args.i) (rw c.port_of-first.ensures.0 at c.pass_data.ensures))
 
 pub returns : goal.returns
 unfolding t_by
-returns c = rw ((sym (c.is_absent.ensures (token_from c.args.mem.now c.args.base c.args.size (port_of c.args.mem.now c.args.i 0)) (rw c.port_of-first.ensures at c.token_of-control.ensures)) ∙ c.if-is_absent.false), (sym (c.is_true.ensures (token_from c.args.mem.now c.args.base c.args.size (port_of c.args.mem.now c.args.i 0)) (rw c.port_of-first.ensures at c.token_of-control.ensures)) ∙ c.if-is_true.false)) (drops-data c.args.mem.now c.drop_data.new.mem c.args.base c.args.size c.args.i c.args.dry c.drop_data.result true true false refl (token_from c.args.mem.now c.args.base c.args.size (port_of c.args.mem.now c.args.i 1)) (register_of c.args.mem.now c.args.i) (rw c.port_of-first.ensures at c.drop_data.ensures))
+returns c = rw ((sym (c.is_absent.ensures (token_from c.args.mem.now c.args.links.base c.args.links.size (port_of c.args.mem.now c.args.i 0)) (rw c.port_of-first.ensures.0 at c.token_of-control.ensures)) ∙ c.if-is_absent.false), (sym (c.is_true.ensures (token_from c.args.mem.now c.args.links.base c.args.links.size (port_of c.args.mem.now c.args.i 0)) (rw c.port_of-first.ensures.0 at c.token_of-control.ensures)) ∙ c.if-is_true.false)) (drops-data c.args.mem.now c.drop_data.new.mem c.args.links.base c.args.links.size c.args.i c.args.dry c.drop_data.result true true false refl (token_from c.args.mem.now c.args.links.base c.args.links.size (port_of c.args.mem.now c.args.i 1)) (register_of c.args.mem.now c.args.i) (rw c.port_of-first.ensures.0 at c.drop_data.ensures))

@@ -1,3 +1,4 @@
+use Rattle.std.specs.Prelude.{Some}
 use mathlib.Core.Path.{◌≡◌, sym, ◌∙◌, refl}
 use mathlib.Core.Bool.{true, false}
 use Rattle.machine_firing.specs.Links.{head_from, token_from}
@@ -5,7 +6,6 @@ use Rattle.machine_gates.specs.Decide.{is_absent}
 use Rattle.machine_layout.specs.Layout.{port_of}
 use Rattle.machine_firing.specs.Fire.{register_of}
 use Rattle.value.specs.Bytes.{word_or, decoded, value_of}
-use Rattle.value.specs.declared.Decoded.TheVariants.{Valid}
 use Rattle.network.specs.Values.{err-value}
 use Rattle.value.proofs.Tokens.{token-of-word}
 use mathlib.Core.List.{List}
@@ -21,19 +21,13 @@ again : (m : List ℕ) (base size l w : ℕ) → w ≡ word_or (token_from m bas
 unfolding token_from
 again m base size l w e = rw (e, token-of-word (head_from m base size l)) refl
 
-pub token_of-a-requires : goal.token_of-a-requires
-token_of-a-requires c = (c.requires.1, c.requires.2, c.requires.3)
-
 pub returns-then-is_absent : goal.returns-then-is_absent
 unfolding unary_by
-returns-then-is_absent c = rw (sym (c.is_absent.ensures (token_from c.args.mem.now c.args.base c.args.size (port_of c.args.mem.now c.args.i 0)) (rw c.port_of-first.ensures at c.token_of-a.ensures)) ∙ c.if-is_absent.true) (moves-idle c.args.mem.now c.args.base c.args.size c.args.i c.args.dry)
-
-pub give_one-requires : goal.give_one-requires
-give_one-requires c = c.requires
+returns-then-is_absent c = rw (sym (c.is_absent.ensures (token_from c.args.mem.now c.args.links.base c.args.links.size (port_of c.args.mem.now c.args.i 0)) (rw c.port_of-first.ensures.0 at c.token_of-a.ensures)) ∙ c.if-is_absent.true) (moves-idle c.args.mem.now c.args.links.base c.args.links.size c.args.i c.args.dry)
 
 pub returns : goal.returns
 unfolding unary_by value_of
 returns c =
-    let e = (sym (c.is_absent.ensures (token_from c.args.mem.now c.args.base c.args.size (port_of c.args.mem.now c.args.i 0)) (rw c.port_of-first.ensures at c.token_of-a.ensures)) ∙ c.if-is_absent.false) in
-    let w : c.applied_to-word.result ≡ word_or (applied c.args.code (token_from c.args.mem.now c.args.base c.args.size (port_of c.args.mem.now c.args.i 0)) (Valid err-value)) = c.applied_to-word.ensures ∙ rw (again c.args.mem.now c.args.base c.args.size _ _ (rw c.port_of-first.ensures at c.token_of-a.ensures)) refl in
-    rw e (gives_one c.args.mem.now c.give_one.new.mem c.args.base c.args.size c.args.i c.args.dry c.give_one.result true false false refl (applied c.args.code (token_from c.args.mem.now c.args.base c.args.size (port_of c.args.mem.now c.args.i 0)) (Valid err-value)) (register_of c.args.mem.now c.args.i) (applied-there c.args.code (token_from c.args.mem.now c.args.base c.args.size (port_of c.args.mem.now c.args.i 0)) (Valid err-value) e refl) (rw (c.port_of-first.ensures, w) at c.give_one.ensures))
+    let e = (sym (c.is_absent.ensures (token_from c.args.mem.now c.args.links.base c.args.links.size (port_of c.args.mem.now c.args.i 0)) (rw c.port_of-first.ensures.0 at c.token_of-a.ensures)) ∙ c.if-is_absent.false) in
+    let w : c.applied_to-word.result ≡ word_or (applied c.args.code (token_from c.args.mem.now c.args.links.base c.args.links.size (port_of c.args.mem.now c.args.i 0)) (Some err-value)) = c.applied_to-word.ensures ∙ rw (again c.args.mem.now c.args.links.base c.args.links.size _ _ (rw c.port_of-first.ensures.0 at c.token_of-a.ensures)) refl in
+    rw e (gives_one c.args.mem.now c.give_one.new.mem c.args.links.base c.args.links.size c.args.i c.args.dry c.give_one.result true false false refl (applied c.args.code (token_from c.args.mem.now c.args.links.base c.args.links.size (port_of c.args.mem.now c.args.i 0)) (Some err-value)) (register_of c.args.mem.now c.args.i) (applied-there c.args.code (token_from c.args.mem.now c.args.links.base c.args.links.size (port_of c.args.mem.now c.args.i 0)) (Some err-value) e refl) (rw (c.port_of-first.ensures.0, w) at c.give_one.ensures))

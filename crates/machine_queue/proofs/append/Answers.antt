@@ -10,8 +10,8 @@ use Rattle.machine_queue.proofs.append.Goals as goal
 
 pub returns-then-at-q : goal.returns-then-at-q
 unfolding appended room_in
-returns-then-at-q c = let r : room_in c.args.q.now ≡ true = le-leb (5 * waiting c.args.q.now + 6) (length c.args.q.now) (omega (arith, c.count_of-n.ensures.0)) in simp (r, c.count_of-n.ensures.0) (rw c.count_of-n.ensures.0 at (ap (λ (l : List ℕ). set l 0 (waiting c.args.q.now + 1)) c.store.ensures))
+returns-then-at-q c = let r : room_in c.args.q.now ≡ true = le-leb (5 * waiting c.args.q.now + 6) (length c.args.q.now) (omega (arith, c.from-n.ensures)) in simp (r, c.from-n.ensures) (rw c.from-n.ensures at (ap (λ (l : List ℕ). set l 0 (waiting c.args.q.now + 1)) c.store.ensures))
 
 pub returns-else-at-q : goal.returns-else-at-q
 unfolding appended room_in
-returns-else-at-q c = let r : room_in c.args.q.now ≡ false = lt-leb (5 * waiting c.args.q.now + 6) (length c.args.q.now) (omega (arith, c.count_of-n.ensures.0)) in simp r
+returns-else-at-q c = let r : room_in c.args.q.now ≡ false = lt-leb (5 * waiting c.args.q.now + 6) (length c.args.q.now) (omega (arith, c.from-n.ensures)) in simp r

@@ -4,4 +4,4 @@ use Rattle.machine_queue.proofs.room.Goals as goal
 
 pub returns : goal.returns
 unfolding room_in
-returns c = rw c.count_of.ensures.0 refl
+returns c = rw c.from.ensures refl

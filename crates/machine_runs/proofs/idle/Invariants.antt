@@ -4,7 +4,4 @@ use Rattle.machine_runs.specs.RunLaws.{QuietFrom}
 use Rattle.machine_runs.proofs.idle.Given as goal
 
 abbrev pub invariant-loop-i : goal.invariant-loop-i
-invariant-loop-i l = (l.i ≤ l.n) × (l.mem ≡ l.initial.mem) × QuietFrom l.initial.mem l.base l.size l.i
-
-abbrev pub decreases-loop-i : goal.decreases-loop-i
-decreases-loop-i l = l.n - l.i
+invariant-loop-i l = (l.i ≤ l.n) × (l.mem ≡ l.initial.mem) × QuietFrom l.initial.mem l.links.base l.links.size l.i

@@ -4,7 +4,4 @@ use Rattle.machine_runs.specs.Marks.{Hits}
 use Rattle.machine_runs.proofs.wake_users.Given as goal
 
 abbrev pub invariant-loop-k : goal.invariant-loop-k
-invariant-loop-k l = (l.k ≤ 6) × (Woke l.initial.awake l.initial.more l.awake l.more) × (Hits l.users l.mem l.base l.size l.i l.k (held l.awake l.more))
-
-abbrev pub decreases-loop-k : goal.decreases-loop-k
-decreases-loop-k l = 6 - l.k
+invariant-loop-k l = (l.k ≤ 6) × (Woke l.initial.awake l.initial.more l.awake l.more) × (Hits l.users l.mem l.links.base l.links.size l.i l.k (held l.awake l.more))

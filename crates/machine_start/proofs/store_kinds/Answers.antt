@@ -1,21 +1,12 @@
-use native.Mathlib.Omega.{arith}
-use mathlib.Core.Path.{refl, sym, ◌∙◌}
-use Prim.Native.Nat.{◌-◌}
-use lib.ListN.{length-set}
-use Rattle.machine_start.specs.StartLaws.{letters-all, letters-more, letters-end}
+use Rattle.std.proofs.Common.{◌≡◌, ◌+◌, ◌-◌, length, append_assoc, sym, arith, rules}
+use Rattle.std.proofs.lemmas.List.{drop-drop}
+use Rattle.std.proofs.lemmas.List.Edits.{sets-eq}
+use Rattle.machine_start.specs.Start.{lettered}
 use Rattle.machine_start.proofs.store_kinds.Goals as goal
 
-pub loop-j-init : goal.loop-j-init
-loop-j-init c = (omega arith, letters-all c.args.mem.now c.args.kinds.now, refl)
-
-pub bounds-mem-j : goal.bounds-mem-j
-bounds-mem-j c = omega (arith, c.loop-j.invariant.2)
-
-pub loop-j-preserved : goal.loop-j-preserved
-loop-j-preserved c = (omega arith, letters-more c.loop-j.mem c.args.kinds.now c.loop-j.j c.loop-j-test.true ∙ c.loop-j.invariant.1, simp length-set c.loop-j.invariant.2)
-
-pub shape_of-mem : goal.shape_of-mem
-shape_of-mem c = c.loop-j.invariant.2
-
 pub returns : goal.returns
-returns c = sym (letters-end c.loop-j.mem c.args.kinds.now c.loop-j.j (omega arith)) ∙ c.loop-j.invariant.1
+unfolding lettered
+returns c =
+    let n : 106 + length c.args.kinds.now - 106 ≡ length c.args.kinds.now = omega arith in
+    let e : c.copy_from_slice.new.self ≡ c.args.kinds.now = search rules in
+    rw (n, e) (simp drop-drop (simp append_assoc at (sym (sets-eq c.args.kinds.now c.args.mem.now 106 (omega arith)))))

@@ -23,12 +23,12 @@ bounds-mem-link_from c = omega (arith, c.plane_at-base.ensures, c.link_from.ensu
 pub loop-l-preserved : goal.loop-l-preserved
 loop-l-preserved c =
     let a : c.link_from.result ≡ link_from (plane_at c.args.t) 6 c.loop-l.l = rw c.plane_at-base.ensures at c.link_from.ensures.0 in
-    (omega arith, below_step c.loop-l.l (empty_link c.args.mem.now c.args.t) c.loop-l.invariant.1 (empty-byte c.args.mem.now c.args.t c.loop-l.l ∙ eq-eqb (get_or c.args.mem.now (link_from (plane_at c.args.t) 6 c.loop-l.l) 0) 0 (rw a at c.if-mem-link_from-eq0.true)))
+    (omega arith, below_step c.loop-l.l (empty_link c.args.mem.now c.args.t) c.loop-l.invariant.1 (empty-byte c.args.mem.now c.args.t c.loop-l.l ∙ eq-eqb (get_or c.args.mem.now (link_from (plane_at c.args.t) 6 c.loop-l.l) 0) 0 (rw a at c.if-mem-link_from-ne0.false)))
 
-pub returns-else-mem-link_from-eq0 : goal.returns-else-mem-link_from-eq0
-returns-else-mem-link_from-eq0 c =
+pub returns-then-mem-link_from-ne0 : goal.returns-then-mem-link_from-ne0
+returns-then-mem-link_from-ne0 c =
     let a : c.link_from.result ≡ link_from (plane_at c.args.t) 6 c.loop-l.l = rw c.plane_at-base.ensures at c.link_from.ensures.0 in
-    sym (below-fail c.args.k (empty_link c.args.mem.now c.args.t) c.loop-l.l (omega arith) (empty-byte c.args.mem.now c.args.t c.loop-l.l ∙ ne_eqb (get_or c.args.mem.now (link_from (plane_at c.args.t) 6 c.loop-l.l) 0) 0 (rw a at c.if-mem-link_from-eq0.false)))
+    sym (below-fail c.args.k (empty_link c.args.mem.now c.args.t) c.loop-l.l (omega arith) (empty-byte c.args.mem.now c.args.t c.loop-l.l ∙ ne_eqb (get_or c.args.mem.now (link_from (plane_at c.args.t) 6 c.loop-l.l) 0) 0 (rw a at c.if-mem-link_from-ne0.true)))
 
 pub returns : goal.returns
 returns c = let e : c.loop-l.l ≡ c.args.k = omega arith in sym (rw e at c.loop-l.invariant.1)

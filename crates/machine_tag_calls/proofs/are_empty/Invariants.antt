@@ -7,6 +7,3 @@ use Rattle.machine_tag_calls.proofs.are_empty.Given as goal
 
 abbrev pub invariant-loop-l : goal.invariant-loop-l
 invariant-loop-l l = (l.l ≤ l.k) × (all_below l.l (empty_link l.mem l.t) ≡ true)
-
-abbrev pub decreases-loop-l : goal.decreases-loop-l
-decreases-loop-l l = l.k - l.l

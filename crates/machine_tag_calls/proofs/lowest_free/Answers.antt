@@ -20,7 +20,7 @@ loop-t-init c = (omega arith, λ j h. absurd (omega arith))
 
 pub returns-then-is_free : goal.returns-then-is_free
 unfolding lowest_free
-returns-then-is_free c = sym (least_at (free_tag c.args.mem.now) 16 c.loop-t.t (omega arith) c.loop-t.invariant.1 (sym c.is_free.ensures ∙ c.if-is_free.true))
+returns-then-is_free c = (sym (least_at (free_tag c.args.mem.now) 16 c.loop-t.t (omega arith) c.loop-t.invariant.1 (sym c.is_free.ensures ∙ c.if-is_free.true)), omega arith)
 
 pub loop-t-preserved : goal.loop-t-preserved
 loop-t-preserved c = (omega arith, none-next (free_tag c.args.mem.now) c.loop-t.t c.loop-t.invariant.1 (sym c.is_free.ensures ∙ c.if-is_free.false))
@@ -29,4 +29,4 @@ pub returns : goal.returns
 unfolding lowest_free
 returns c =
     let e : c.loop-t.t ≡ 16 = omega arith in
-    sym (least-none (free_tag c.args.mem.now) 16 (rw e at c.loop-t.invariant.1))
+    least-none (free_tag c.args.mem.now) 16 (rw e at c.loop-t.invariant.1)

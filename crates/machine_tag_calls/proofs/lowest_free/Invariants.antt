@@ -5,6 +5,3 @@ use Rattle.machine_tag_calls.proofs.lowest_free.Given as goal
 
 abbrev pub invariant-loop-t : goal.invariant-loop-t
 invariant-loop-t l = (l.t ≤ 16) × NoneBelow (free_tag l.mem) l.t
-
-abbrev pub decreases-loop-t : goal.decreases-loop-t
-decreases-loop-t l = 16 - l.t

@@ -10,12 +10,6 @@ loop-j-init c = (omega arith, record { len = c.requires.3; inside = omega arith;
 pub wake_waiting-m-requires : goal.wake_waiting-m-requires
 wake_waiting-m-requires c = (omega arith, omega arith, c.requires.2 c.loop-j.j (omega arith), c.loop-j.invariant.1)
 
-pub overflow_add-j : goal.overflow_add-j
-overflow_add-j c = omega arith
-
-pub loop-j-smaller : goal.loop-j-smaller
-loop-j-smaller c = omega arith
-
 pub loop-j-preserved : goal.loop-j-preserved
 loop-j-preserved c = (omega arith, c.wake_waiting-m.ensures.0.stands, resting-more c.args.mem.now c.args.base c.loop-j.j c.loop-j.awake c.loop-j.m c.loop-j.invariant.2 c.wake_waiting-m.new.awake c.wake_waiting-m.result c.wake_waiting-m.ensures.0 c.wake_waiting-m.ensures.1)
 

@@ -5,6 +5,3 @@ use Rattle.machine_tag_marks.proofs.mark_plane.Given as goal
 
 abbrev pub invariant-loop-j : goal.invariant-loop-j
 invariant-loop-j l = (l.j ≤ l.n) × (Stands l.awake l.m) × (Resting l.mem l.base 6 l.j (held l.awake l.m))
-
-abbrev pub decreases-loop-j : goal.decreases-loop-j
-decreases-loop-j l = l.n - l.j

@@ -11,8 +11,6 @@ wake-woken-requires c =
     let wide : (b : ℕ) → get_or c.args.awake.now b 0 < 2 ^ 64 = λ b. omega (arith, c.slice_known-2-1.given b) in (
       omega arith,
       omega arith,
-      omega arith,
-      omega arith,
       stands_at c.args.awake.now c.args.i c.requires.3 wide c.requires.2 c.requires.4,
       refl,
       lowest-here c.args.awake.now c.args.i c.requires.3 wide c.requires.2 c.requires.4,

@@ -5,6 +5,3 @@ use Rattle.machine_tag_runs.proofs.idle.Given as goal
 
 abbrev pub invariant-loop-v : goal.invariant-loop-v
 invariant-loop-v l = (l.v ≤ 16 * l.n) × (l.mem ≡ l.initial.mem) × (QuietBelow l.initial.mem l.v)
-
-abbrev pub decreases-loop-v : goal.decreases-loop-v
-decreases-loop-v l = 16 * l.n - l.v

@@ -23,12 +23,6 @@ offset_bounds-firsts-t-then-firsts-t c = omega arith
 pub bounds-firsts-t-then-firsts-t : goal.bounds-firsts-t-then-firsts-t
 bounds-firsts-t-then-firsts-t c = omega arith
 
-pub overflow_add-t : goal.overflow_add-t
-overflow_add-t c = omega arith
-
-pub loop-t-smaller : goal.loop-t-smaller
-loop-t-smaller c = omega arith
-
 pub loop-t-preserved : goal.loop-t-preserved
 loop-t-preserved c = (
   omega arith,

@@ -4,6 +4,3 @@ use Rattle.machine_tag_runs.proofs.least_pair.Given as goal
 
 abbrev pub invariant-loop-t : goal.invariant-loop-t
 invariant-loop-t l = (1 ≤ l.t) × (l.t ≤ 16) × (LeastOf l.firsts l.t l.v)
-
-abbrev pub decreases-loop-t : goal.decreases-loop-t
-decreases-loop-t l = 16 - l.t

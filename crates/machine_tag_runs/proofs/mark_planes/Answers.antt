@@ -47,12 +47,6 @@ offset_bounds-firsts-t c = omega arith
 pub bounds-firsts-t : goal.bounds-firsts-t
 bounds-firsts-t c = omega arith
 
-pub overflow_add-t : goal.overflow_add-t
-overflow_add-t c = omega arith
-
-pub loop-t-smaller : goal.loop-t-smaller
-loop-t-smaller c = omega arith
-
 pub loop-t-preserved : goal.loop-t-preserved
 loop-t-preserved c =
     let k : 16 * c.loop-t.t + 16 - 16 * c.loop-t.t ≡ 16 = omega arith in

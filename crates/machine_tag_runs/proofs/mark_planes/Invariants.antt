@@ -6,6 +6,3 @@ use Rattle.machine_tag_runs.proofs.mark_planes.Given as goal
 
 abbrev pub invariant-loop-t : goal.invariant-loop-t
 invariant-loop-t l = (l.t ≤ 16) × (length l.awake ≡ 256) × (length l.firsts ≡ 16) × ((o : ℕ) → o < l.t → Marked l.mem l.n l.awake l.firsts o)
-
-abbrev pub decreases-loop-t : goal.decreases-loop-t
-decreases-loop-t l = 16 - l.t

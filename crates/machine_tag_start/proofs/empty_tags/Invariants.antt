@@ -6,7 +6,4 @@ use Rattle.machine_tag_start.specs.TagStart.{emptied_tags}
 use Rattle.machine_tag_start.proofs.empty_tags.Given as goal
 
 abbrev pub invariant-loop-t : goal.invariant-loop-t
-invariant-loop-t l = (l.t ≤ most_tags) × (l.mem ≡ emptied_tags l.t l.links l.initial.mem) × (length l.mem ≡ length l.initial.mem)
-
-abbrev pub decreases-loop-t : goal.decreases-loop-t
-decreases-loop-t l = most_tags - l.t
+invariant-loop-t l = (l.mem ≡ emptied_tags l.t l.links l.initial.mem) × (length l.mem ≡ length l.initial.mem)

@@ -1,12 +1,9 @@
 use mathlib.Core.Path.{◌≡◌}
-use Prim.Native.Nat.{◌+◌, ◌-◌, ◌≤◌}
+use Prim.Native.Nat.{◌+◌, ◌-◌}
 use Rattle.formula.specs.Sheet.{row_count, fields_of}
 use Rattle.formula.specs.Tests.{lowest_from, lowest}
 use Rattle.machine_tag_start.specs.TagStart.{not_for}
 use Rattle.machine_tag_start.proofs.has_for.Given as goal
 
 abbrev pub invariant-loop-i : goal.invariant-loop-i
-invariant-loop-i l = (l.i ≤ row_count l.sheet) × (lowest_from (l.i + 1) (row_count l.sheet - l.i) (not_for (fields_of l.sheet)) ≡ lowest (row_count l.sheet) (not_for (fields_of l.sheet)))
-
-abbrev pub decreases-loop-i : goal.decreases-loop-i
-decreases-loop-i l = row_count l.sheet - l.i
+invariant-loop-i l = lowest_from (l.i + 1) (row_count l.sheet - l.i) (not_for (fields_of l.sheet)) ≡ lowest (row_count l.sheet) (not_for (fields_of l.sheet))

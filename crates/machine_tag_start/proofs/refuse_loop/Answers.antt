@@ -6,11 +6,11 @@ use Rattle.machine_tag_start.proofs.refuse_loop.Goals as goal
 
 pub overflow_cast-row : goal.overflow_cast-row
 overflow_cast-row c =
-    let m = low-row c.args.sheet.now c.args.line.now c.in-Rejected.r c.in-Rejected.row (rejected-refused c.args.sheet.now c.args.line.now c.in-Rejected.r c.in-Rejected.row (sym c.read.ensures ∙ c.in-Rejected.is)) in
+    let m = low-row c.args.sheet.now c.args.line.now c.in-Err.field-0.refusal c.in-Err.field-0.row (rejected-refused c.args.sheet.now c.args.line.now c.in-Err.field-0.refusal c.in-Err.field-0.row (sym c.read.ensures ∙ c.in-Err.is)) in
     omega arith
 
-pub returns-in-Accepted : goal.returns-in-Accepted
-returns-in-Accepted c = c.refused.ensures ∙ sym (ap loop_answer (accepted-passed c.args.sheet.now c.args.line.now _ (sym c.read.ensures ∙ c.in-Accepted.is)))
+pub returns-in-Ok : goal.returns-in-Ok
+returns-in-Ok c = c.refused.ensures ∙ sym (ap loop_answer (accepted-passed c.args.sheet.now c.args.line.now _ (sym c.read.ensures ∙ c.in-Ok.is)))
 
-pub returns-in-Rejected : goal.returns-in-Rejected
-returns-in-Rejected c = c.refused-in-Rejected.ensures ∙ sym (ap loop_answer (rejected-refused c.args.sheet.now c.args.line.now c.in-Rejected.r c.in-Rejected.row (sym c.read.ensures ∙ c.in-Rejected.is)))
+pub returns-in-Err : goal.returns-in-Err
+returns-in-Err c = c.refused-in-Err.ensures ∙ sym (ap loop_answer (rejected-refused c.args.sheet.now c.args.line.now c.in-Err.field-0.refusal c.in-Err.field-0.row (sym c.read.ensures ∙ c.in-Err.is)))

@@ -13,11 +13,11 @@ loop-i-init c = (omega arith, below-zero (plain_kind c.args.mem.now))
 
 pub loop-i-preserved : goal.loop-i-preserved
 unfolding plain_kind
-loop-i-preserved c = (omega arith, below_step c.loop-i.i (plain_kind c.args.mem.now) c.loop-i.invariant.1 (le-leb (kind_byte c.args.mem.now c.loop-i.i) 16 (rw c.operator_at.ensures at c.if-mem-operator_at-le-M.true)))
+loop-i-preserved c = (omega arith, below_step c.loop-i.i (plain_kind c.args.mem.now) c.loop-i.invariant.1 (le-leb (kind_byte c.args.mem.now c.loop-i.i) 16 (rw c.operator_at.ensures at c.if-mem-operator_at-gt-M.false)))
 
-pub returns-else-mem-operator_at-le-M : goal.returns-else-mem-operator_at-le-M
+pub returns-then-mem-operator_at-gt-M : goal.returns-then-mem-operator_at-gt-M
 unfolding plain_kind
-returns-else-mem-operator_at-le-M c = sym (below-fail c.args.n (plain_kind c.args.mem.now) c.loop-i.i (omega arith) (lt-leb (kind_byte c.args.mem.now c.loop-i.i) 16 (rw c.operator_at.ensures at c.if-mem-operator_at-le-M.false)))
+returns-then-mem-operator_at-gt-M c = sym (below-fail c.args.n (plain_kind c.args.mem.now) c.loop-i.i (omega arith) (lt-leb (kind_byte c.args.mem.now c.loop-i.i) 16 (rw c.operator_at.ensures at c.if-mem-operator_at-gt-M.true)))
 
 pub returns : goal.returns
 returns c = let e : c.loop-i.i ≡ c.args.n = omega arith in sym (rw e at c.loop-i.invariant.1)

@@ -7,6 +7,3 @@ use Rattle.machine_tag_valid.proofs.tags_ok.Given as goal
 
 abbrev pub invariant-loop-t : goal.invariant-loop-t
 invariant-loop-t l = (l.t ≤ 16) × (all_below l.t (untaken_under_ok l.mem) ≡ true)
-
-abbrev pub decreases-loop-t : goal.decreases-loop-t
-decreases-loop-t l = 16 - l.t

@@ -6,6 +6,3 @@ use Rattle.machine_tray.proofs.push_tray.Given as goal
 
 abbrev pub invariant-loop-count : goal.invariant-loop-count
 invariant-loop-count l = (length l.mem ≡ length l.initial.mem) × (l.at ≤ length l.sets) × Underway l.initial.mem l.sets l.number l.size l.mem l.at l.count
-
-abbrev pub decreases-loop-count : goal.decreases-loop-count
-decreases-loop-count l = l.number - l.count

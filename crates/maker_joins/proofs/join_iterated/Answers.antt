@@ -8,14 +8,14 @@ use Rattle.maker_laid.specs.Results.{none_is, some_is, iterated-second-only, ite
 use native.Mathlib.Omega.{arith}
 use Rattle.maker_joins.proofs.join_iterated.Goals as goal
 
-pub returns-then-i-eq0 : goal.returns-then-i-eq0
-returns-then-i-eq0 c = (omega arith, refl, sym (ap (λ (b : Bool). cond b c.args.i c.args.j) (none_is c.args.i c.if-i-eq0.true)), omega (arith, first-none c.args.i c.args.j c.if-i-eq0.true), omega arith, λ env e p q. iterated-second-only _ _ env _ [] c.args.xs c.args.ys [] _ c.args.i c.args.j e p q c.if-i-eq0.true (search rules))
+pub returns-then-xs-eq0 : goal.returns-then-xs-eq0
+returns-then-xs-eq0 c = (omega arith, refl, sym (ap (λ (b : Bool). cond b c.args.xs.len c.args.ys.len) (none_is c.args.xs.len c.if-xs-eq0.true)), omega (arith, first-none c.args.xs.len c.args.ys.len c.if-xs-eq0.true), omega arith, λ env e p q. iterated-second-only _ _ env _ [] c.args.xs.at c.args.ys.at [] _ c.args.xs.len c.args.ys.len e p q c.if-xs-eq0.true (search rules))
 
-pub returns-then-j-eq0 : goal.returns-then-j-eq0
-returns-then-j-eq0 c = (omega arith, refl, sym (ap (λ (b : Bool). cond b c.args.i c.args.j) (some_is c.args.i c.if-i-eq0.false)), omega (arith, second_none c.args.i c.args.j c.if-i-eq0.false c.if-j-eq0.true), omega arith, λ env e p q. iterated-first-only _ _ env _ [] c.args.xs c.args.ys [] _ c.args.i c.args.j e p q c.if-i-eq0.false c.if-j-eq0.true (search rules))
+pub returns-then-ys-eq0 : goal.returns-then-ys-eq0
+returns-then-ys-eq0 c = (omega arith, refl, sym (ap (λ (b : Bool). cond b c.args.xs.len c.args.ys.len) (some_is c.args.xs.len c.if-xs-eq0.false)), omega (arith, second_none c.args.xs.len c.args.ys.len c.if-xs-eq0.false c.if-ys-eq0.true), omega arith, λ env e p q. iterated-first-only _ _ env _ [] c.args.xs.at c.args.ys.at [] _ c.args.xs.len c.args.ys.len e p q c.if-xs-eq0.false c.if-ys-eq0.true (search rules))
 
 pub gates-requires : goal.gates-requires
-gates-requires c = let h : (c.args.i ≡ c.args.j) × (c.args.next.operator + 2 * c.args.i ≤ 1025) = c.requires.2 (omega arith) (omega arith) in ((omega arith, omega arith), h.1, omega arith, search rules)
+gates-requires c = let h : (c.args.xs.len ≡ c.args.ys.len) × (c.args.next.operator + 2 * c.args.xs.len ≤ 1025) = c.requires.2 (omega arith) (omega arith) in ((omega arith, omega arith), h.1, omega arith, search rules)
 
 pub returns : goal.returns
-returns c = let h : (c.args.i ≡ c.args.j) × (c.args.next.operator + 2 * c.args.i ≤ 1025) = c.requires.2 (omega arith) (omega arith) in (omega arith, omega arith, c.gates.ensures.2 ∙ sym (ap (λ (b : Bool). cond b c.args.i c.args.j) (some_is c.args.i c.if-i-eq0.false)), omega (arith, both-iterate c.args.i c.args.j c.if-i-eq0.false c.if-j-eq0.false (omega arith)), omega arith, λ env e p q. iterated-merged _ _ env _ _ c.args.xs c.args.ys _ _ c.args.i c.args.j e p q c.if-i-eq0.false c.if-j-eq0.false h.0 (omega arith) _ _ _ c.gates.ensures.0 c.gates.ensures.1 c.gates.ensures.2 c.gates.ensures.4 c.gates.ensures.5)
+returns c = let h : (c.args.xs.len ≡ c.args.ys.len) × (c.args.next.operator + 2 * c.args.xs.len ≤ 1025) = c.requires.2 (omega arith) (omega arith) in (omega arith, omega arith, c.gates.ensures.2 ∙ sym (ap (λ (b : Bool). cond b c.args.xs.len c.args.ys.len) (some_is c.args.xs.len c.if-xs-eq0.false)), omega (arith, both-iterate c.args.xs.len c.args.ys.len c.if-xs-eq0.false c.if-ys-eq0.false (omega arith)), omega arith, λ env e p q. iterated-merged _ _ env _ _ c.args.xs.at c.args.ys.at _ _ c.args.xs.len c.args.ys.len e p q c.if-xs-eq0.false c.if-ys-eq0.false h.0 (omega arith) _ _ _ c.gates.ensures.0 c.gates.ensures.1 c.gates.ensures.2 c.gates.ensures.4 c.gates.ensures.5)

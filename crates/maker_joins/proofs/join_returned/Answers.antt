@@ -1,5 +1,5 @@
 use borrow.Author.Rules.{rules}
-use Prim.Native.Nat.{ℕ, ◌+◌, ◌*◌, ◌-◌, ◌≤◌, ◌<◌}
+use Prim.Native.Nat.{ℕ, ◌+◌, ◌*◌, ◌≤◌, ◌<◌}
 use mathlib.Core.Path.{◌≡◌}
 use lib.ListN.{get_or, replicate, get_or-replicate}
 use Rattle.machine_layout.specs.Layout.{no_link}
@@ -10,23 +10,23 @@ use Rattle.maker_joins.proofs.join_returned.Goals as goal
 blank : (z : ℕ) → z < 33 → get_or (replicate 33 65535) z 0 ≡ no_link
 blank z l = get_or-replicate 33 z 65535 0 l
 
-pub returns-then-j-eq0 : goal.returns-then-j-eq0
-returns-then-j-eq0 c = (c.copies.ensures.2, λ env e p q. returned-neither _ _ env _ _ c.args.xs c.args.ys (replicate 33 65535) _ _ c.args.i c.args.j c.args.w e p q (omega arith) blank _ _ _ c.copies.ensures.2 c.if-i-eq0.true c.if-j-eq0.true c.copies.ensures.0 c.copies.ensures.1 c.copies.ensures.3 c.copies.ensures.4)
+pub returns-then-ys-eq0 : goal.returns-then-ys-eq0
+returns-then-ys-eq0 c = (c.copies.ensures.2, λ env e p q. returned-neither _ _ env _ _ c.args.xs.at c.args.ys.at (replicate 33 65535) _ _ c.args.xs.len c.args.ys.len c.args.w e p q (omega arith) blank _ _ _ c.copies.ensures.2 c.if-xs-eq0.true c.if-ys-eq0.true c.copies.ensures.0 c.copies.ensures.1 c.copies.ensures.3 c.copies.ensures.4)
 
 pub gates-requires : goal.gates-requires
 gates-requires c = let h : c.args.next.operator + 2 * c.args.w ≤ 1025 = c.requires.4 (omega arith) in ((omega arith, omega arith), h, omega arith, search rules)
 
-pub returns-then-i-eq0 : goal.returns-then-i-eq0
-returns-then-i-eq0 c = (c.gates.ensures.2, λ env e p q. returned-second _ _ env _ _ c.args.xs c.args.ys (replicate 33 65535) _ _ c.args.i c.args.j c.args.w e p q (omega arith) blank _ _ _ c.gates.ensures.2 c.if-i-eq0.true c.if-j-eq0.false (c.requires.3 (omega arith)) c.gates.ensures.0 c.gates.ensures.1 c.gates.ensures.4 c.gates.ensures.5)
+pub returns-then-xs-eq0 : goal.returns-then-xs-eq0
+returns-then-xs-eq0 c = (c.gates.ensures.2, λ env e p q. returned-second _ _ env _ _ c.args.xs.at c.args.ys.at (replicate 33 65535) _ _ c.args.xs.len c.args.ys.len c.args.w e p q (omega arith) blank _ _ _ c.gates.ensures.2 c.if-xs-eq0.true c.if-ys-eq0.false (c.requires.3 (omega arith)) c.gates.ensures.0 c.gates.ensures.1 c.gates.ensures.4 c.gates.ensures.5)
 
-pub gates-requires-then-j-eq0-2 : goal.gates-requires-then-j-eq0-2
-gates-requires-then-j-eq0-2 c = let h : c.args.next.operator + 2 * c.args.w ≤ 1025 = c.requires.4 (omega arith) in ((omega arith, omega arith), h, omega arith, search rules)
+pub gates-requires-then-ys-eq0-2 : goal.gates-requires-then-ys-eq0-2
+gates-requires-then-ys-eq0-2 c = let h : c.args.next.operator + 2 * c.args.w ≤ 1025 = c.requires.4 (omega arith) in ((omega arith, omega arith), h, omega arith, search rules)
 
-pub returns-then-j-eq0-2 : goal.returns-then-j-eq0-2
-returns-then-j-eq0-2 c = (c.gates-then-j-eq0-2.ensures.2, λ env e p q. returned-first _ _ env _ _ c.args.xs c.args.ys (replicate 33 65535) _ _ c.args.i c.args.j c.args.w e p q (omega arith) blank _ _ _ c.gates-then-j-eq0-2.ensures.2 c.if-i-eq0.false c.if-j-eq0-2.true (c.requires.2 (omega arith)) c.gates-then-j-eq0-2.ensures.0 c.gates-then-j-eq0-2.ensures.1 c.gates-then-j-eq0-2.ensures.4 c.gates-then-j-eq0-2.ensures.5)
+pub returns-then-ys-eq0-2 : goal.returns-then-ys-eq0-2
+returns-then-ys-eq0-2 c = (c.gates-then-ys-eq0-2.ensures.2, λ env e p q. returned-first _ _ env _ _ c.args.xs.at c.args.ys.at (replicate 33 65535) _ _ c.args.xs.len c.args.ys.len c.args.w e p q (omega arith) blank _ _ _ c.gates-then-ys-eq0-2.ensures.2 c.if-xs-eq0.false c.if-ys-eq0-2.true (c.requires.2 (omega arith)) c.gates-then-ys-eq0-2.ensures.0 c.gates-then-ys-eq0-2.ensures.1 c.gates-then-ys-eq0-2.ensures.4 c.gates-then-ys-eq0-2.ensures.5)
 
 pub gates-requires-2 : goal.gates-requires-2
 gates-requires-2 c = let h : c.args.next.operator + 2 * c.args.w ≤ 1025 = c.requires.4 (omega arith) in ((omega arith, omega arith), h, omega arith, search rules)
 
 pub returns : goal.returns
-returns c = (c.gates-2.ensures.2, λ env e p q. returned-both _ _ env _ _ c.args.xs c.args.ys (replicate 33 65535) _ _ c.args.i c.args.j c.args.w e p q (omega arith) blank _ _ _ c.gates-2.ensures.2 c.if-i-eq0.false c.if-j-eq0-2.false (c.requires.2 (omega arith)) (c.requires.3 (omega arith)) c.gates-2.ensures.0 c.gates-2.ensures.1 c.gates-2.ensures.4 c.gates-2.ensures.5)
+returns c = (c.gates-2.ensures.2, λ env e p q. returned-both _ _ env _ _ c.args.xs.at c.args.ys.at (replicate 33 65535) _ _ c.args.xs.len c.args.ys.len c.args.w e p q (omega arith) blank _ _ _ c.gates-2.ensures.2 c.if-xs-eq0.false c.if-ys-eq0-2.false (c.requires.2 (omega arith)) (c.requires.3 (omega arith)) c.gates-2.ensures.0 c.gates-2.ensures.1 c.gates-2.ensures.4 c.gates-2.ensures.5)

@@ -3,7 +3,8 @@ use mathlib.Core.List.{List}
 use Prim.Native.Nat.{ℕ, ◌+◌, ◌*◌, ◌-◌}
 use lib.ListN.{get_or, take}
 use Rattle.graph.specs.Assembly.{chain, chain_ends, ring}
-use Rattle.maker_laid.specs.Masked.{list_of, names_in}
+use Rattle.maker_laid.specs.Masked.{list_of}
+use Rattle.names.specs.Names.{names_in}
 use Rattle.maker_laid.specs.Encode.{encoded, written}
 use Rattle.maker_laid.specs.Emitted.{assigned, link_in}
 use Rattle.maker_parts.specs.Ranges.{list-range, mask-of-range}

@@ -1,4 +1,4 @@
-use Prim.Native.Nat.{◌+◌, ◌*◌, ◌-◌}
+use Prim.Native.Nat.{◌+◌, ◌*◌}
 use mathlib.Core.Bool.{cond}
 use Rattle.maker_rows.proofs.+arm_ended_fors_ifs_lets_pairs_plain_row.Given as goal
 

@@ -11,7 +11,7 @@ use Rattle.session.proofs.FeedLaws.{fed-start, fed-more, fed-stop, fed-bad, fed-
 use Rattle.session_pass.proofs.feed.Goals as goal
 
 pub loop-next-init : goal.loop-next-init
-loop-next-init c = (refl, sym c.blank_set-set.ensures, omega arith, fed-start c.args.kinds.now c.args.sets.now c.args.at c.args.mem.now)
+loop-next-init c = (refl, refl, omega arith, fed-start c.args.kinds.now c.args.sets.now c.args.at c.args.mem.now)
 
 pub read_set-requires : goal.read_set-requires
 read_set-requires c = (omega arith, omega arith, omega (arith, c.loop-next.invariant.1))

@@ -2,4 +2,4 @@ use mathlib.Core.Path.{refl}
 use Rattle.sheet_tidy.proofs.refused.Goals as goal
 
 pub returns : goal.returns
-returns c = rw c.refusal_number.ensures refl
+returns c = rw c.from.ensures refl

@@ -1,9 +1,10 @@
+use native.Mathlib.Omega.{arith}
 use Rattle.text.proofs.PrintLaws.{led-put, led-empty}
 use lib.ListN.{length}
 use Rattle.text_print.proofs.lead.Goals as goal
 
-pub returns-then-part-gt0 : goal.returns-then-part-gt0
-returns-then-part-gt0 c = led-put c.args.before c.spaces.new.part (length c.args.part.now) c.spaces.ensures c.if-part-gt0.true
+pub returns-in-Some : goal.returns-in-Some
+returns-in-Some c = led-put c.args.before c.fill.new.self (length c.args.part.now) (c.fill.ensures.after (λ y h. h)) (omega (arith, c.in-Some.ensures.item))
 
-pub returns-else-part-gt0 : goal.returns-else-part-gt0
-returns-else-part-gt0 c = led-empty c.args.before c.spaces.new.part (length c.args.part.now) c.spaces.ensures c.if-part-gt0.false
+pub returns-in_default : goal.returns-in_default
+returns-in_default c = led-empty c.args.before c.fill.new.self (length c.args.part.now) (c.fill.ensures.after (λ y h. h)) (omega (arith, c.in_default.ensures.item))

@@ -1,41 +1,13 @@
-use mathlib.Core.Path.{sym, refl, ◌∙◌}
-use Rattle.value.specs.Operators.{logical}
-use Rattle.value.proofs.Codes.{logical-err}
+use mathlib.Core.Path.{sym, ◌∙◌}
+use Rattle.value.proofs.Codes.{truth-beside, err-beside, no-truth-first}
 use Rattle.value.proofs.apply_logical.Goals as goal
+use Rattle.value.proofs.apply_logical.Goals.{in_default-via-in-Truth+in_default, in_default-via-in-Err+in_default, in_default-via-in_default}
 
-pub returns-in-Truth-b : goal.returns-in-Truth-b
-returns-in-Truth-b c = rw (c.in-Truth.is, c.in-Truth-b.is) c.apply_truths.ensures
-
-pub returns-in-Err-b : goal.returns-in-Err-b
-returns-in-Err-b c = rw (c.in-Truth.is, c.in-Err-b.is) c.apply_beside_err.ensures.0
-
-pub returns-in-Whole-b : goal.returns-in-Whole-b
-unfolding logical
-returns-in-Whole-b c = c.hand_on.ensures ∙ rw (c.in-Truth.is, c.in-Whole-b.is) (sym (logical-err c.args.code _ _ c.requires.0 c.requires.1 (λ d f. refl)))
-
-pub returns-in-Real-b : goal.returns-in-Real-b
-unfolding logical
-returns-in-Real-b c = c.hand_on-in-Real-b.ensures ∙ rw (c.in-Truth.is, c.in-Real-b.is) (sym (logical-err c.args.code _ _ c.requires.0 c.requires.1 (λ d f. refl)))
-
-pub returns-in-Truth-b-2 : goal.returns-in-Truth-b-2
-returns-in-Truth-b-2 c = rw (c.in-Err.is, c.in-Truth-b-2.is) c.apply_beside_err-in-Truth-b-2.ensures.1
-
-pub returns-in-Err-b-2 : goal.returns-in-Err-b-2
-unfolding logical
-returns-in-Err-b-2 c = c.hand_on-in-Err-b-2.ensures ∙ rw (c.in-Err.is, c.in-Err-b-2.is) (sym (logical-err c.args.code _ _ c.requires.0 c.requires.1 (λ d f. refl)))
-
-pub returns-in-Whole-b-2 : goal.returns-in-Whole-b-2
-unfolding logical
-returns-in-Whole-b-2 c = c.hand_on-in-Whole-b-2.ensures ∙ rw (c.in-Err.is, c.in-Whole-b-2.is) (sym (logical-err c.args.code _ _ c.requires.0 c.requires.1 (λ d f. refl)))
-
-pub returns-in-Real-b-2 : goal.returns-in-Real-b-2
-unfolding logical
-returns-in-Real-b-2 c = c.hand_on-in-Real-b-2.ensures ∙ rw (c.in-Err.is, c.in-Real-b-2.is) (sym (logical-err c.args.code _ _ c.requires.0 c.requires.1 (λ d f. refl)))
-
-pub returns-in-Whole : goal.returns-in-Whole
-unfolding logical
-returns-in-Whole c = c.hand_on-in-Whole.ensures ∙ rw c.in-Whole.is (sym (logical-err c.args.code _ c.args.b c.requires.0 c.requires.1 (λ d f. refl)))
-
-pub returns-in-Real : goal.returns-in-Real
-unfolding logical
-returns-in-Real c = c.hand_on-in-Real.ensures ∙ rw c.in-Real.is (sym (logical-err c.args.code _ c.args.b c.requires.0 c.requires.1 (λ d f. refl)))
+pub returns-in_default : goal.returns-in_default
+returns-in_default c =
+    c.hand_on.ensures
+    ∙ elim c.in_default.branch [
+      | in_default-via-in-Truth+in_default w ↦ rw w.in_default.is-0 (sym (truth-beside c.args.code c.requires.0 c.requires.1 _ c.args.b w.in_default.not-Truth-1 w.in_default.not-Err-1))
+      | in_default-via-in-Err+in_default w ↦ rw w.in_default.is-0 (sym (err-beside c.args.code c.requires.0 c.requires.1 _ c.args.b w.in_default.not-Truth-1))
+      | in_default-via-in_default w ↦ sym (no-truth-first c.args.code c.requires.0 c.requires.1 c.args.a c.args.b w.in_default.not-Truth-0 w.in_default.not-Err-0)
+    ]

@@ -1,15 +1,13 @@
 use mir.Facts.{to_z-of_z}
-use Rattle.value.proofs.Whole.{back, too-low, too-high, whole-fits, whole_is}
+use mir.Syntax.{w32}
+use mir.Val.{SFits}
+use Rattle.value.proofs.Whole.{back, whole_is, outside}
 use Rattle.value.proofs.fit.Goals as goal
 
-pub returns-then-z-ltminus2147483648 : goal.returns-then-z-ltminus2147483648
-returns-then-z-ltminus2147483648 c = too-low c.args.z c.ranges.z c.if-z-ltminus2147483648.true
+pub returns-in-Ok : goal.returns-in-Ok
+returns-in-Ok c =
+    let f : SFits w32 c.args.z = rw (to_z-of_z c.ranges.z) at c.in-Ok.ensures.0 in
+    rw (c.in-Ok.ensures.1, to_z-of_z c.ranges.z, back f) (whole_is c.args.z f)
 
-pub returns-then-z-gt2147483647 : goal.returns-then-z-gt2147483647
-returns-then-z-gt2147483647 c = too-high c.args.z c.ranges.z c.if-z-gt2147483647.true
-
-pub overflow_cast-result : goal.overflow_cast-result
-overflow_cast-result c = rw (to_z-of_z c.ranges.z) (whole-fits c.args.z c.ranges.z c.if-z-ltminus2147483648.false c.if-z-gt2147483647.false)
-
-pub returns : goal.returns
-returns c = let f = whole-fits c.args.z c.ranges.z c.if-z-ltminus2147483648.false c.if-z-gt2147483647.false in rw (to_z-of_z c.ranges.z, back f) (whole_is c.args.z f)
+pub returns-in-Err : goal.returns-in-Err
+returns-in-Err c = outside c.args.z (rw (to_z-of_z c.ranges.z) at c.in-Err.ensures)

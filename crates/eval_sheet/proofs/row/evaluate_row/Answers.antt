@@ -24,10 +24,10 @@ pub expr-requires : goal.expr-requires
 expr-requires c = (c.requires.0, c.hold.ensures.long, omega (arith, narrow c.args.t.now c.args.widths.now c.args.n c.requires.0))
 
 pub overflow_sub-rounds : goal.overflow_sub-rounds
-overflow_sub-rounds c = left-within (exp_of c.args.t.now c.args.n) (env_of c.hold.new.env) c.args.rounds c.in-Left.l 0 (replicate 16 0) c.expr.new.out (rw c.in-Left.is at c.expr.ensures.0)
+overflow_sub-rounds c = left-within (exp_of c.args.t.now c.args.n) (env_of c.hold.new.env) c.args.rounds c.in-Some.left 0 (replicate 16 0) c.expr.new.out (rw c.in-Some.is at c.expr.ensures.0)
 
-pub returns-in-Short : goal.returns-in-Short
-returns-in-Short c = c.refuse-in-Short.ensures ∙ concluded-short (eval_e (exp_of c.args.t.now c.args.n) (env_of c.hold.new.env) c.args.rounds) c.args.rounds 0 (replicate 16 0) c.expr.new.out (rw c.in-Short.is at c.expr.ensures.0) ∙ evaluated-good (exp_of c.args.t.now c.args.n) c.args.kinds.now c.args.set.now c.args.rounds c.hold.new.env c.requires.2 (sym c.is_set.ensures ∙ c.if-not-is_set.false) (subst (λ (z : ℕ). Holds c.args.set.now (length c.args.kinds.now) z c.hold.new.env 32) c.requires.1 c.hold.ensures)
+pub returns-in-None : goal.returns-in-None
+returns-in-None c = c.refuse-in-None.ensures ∙ concluded-short (eval_e (exp_of c.args.t.now c.args.n) (env_of c.hold.new.env) c.args.rounds) c.args.rounds 0 (replicate 16 0) c.expr.new.out (rw c.in-None.is at c.expr.ensures.0) ∙ evaluated-good (exp_of c.args.t.now c.args.n) c.args.kinds.now c.args.set.now c.args.rounds c.hold.new.env c.requires.2 (sym c.is_set.ensures ∙ c.if-not-is_set.false) (subst (λ (z : ℕ). Holds c.args.set.now (length c.args.kinds.now) z c.hold.new.env 32) c.requires.1 c.hold.ensures)
 
-pub returns-in-Left : goal.returns-in-Left
-returns-in-Left c = concluded-left c.args.t.now c.args.widths.now c.args.n c.requires.0 (env_of c.hold.new.env) c.args.rounds c.in-Left.l c.expr.new.out c.conclude.result (rw c.in-Left.is at c.expr.ensures.0) c.expr.ensures.1 c.conclude.ensures.0 (c.conclude.ensures.1 ∙ c.width_at.ensures.0) c.conclude.ensures.2 c.conclude.ensures.3 ∙ evaluated-good (exp_of c.args.t.now c.args.n) c.args.kinds.now c.args.set.now c.args.rounds c.hold.new.env c.requires.2 (sym c.is_set.ensures ∙ c.if-not-is_set.false) (subst (λ (z : ℕ). Holds c.args.set.now (length c.args.kinds.now) z c.hold.new.env 32) c.requires.1 c.hold.ensures)
+pub returns-in-Some : goal.returns-in-Some
+returns-in-Some c = concluded-left c.args.t.now c.args.widths.now c.args.n c.requires.0 (env_of c.hold.new.env) c.args.rounds c.in-Some.left c.expr.new.out c.conclude.result (rw c.in-Some.is at c.expr.ensures.0) c.expr.ensures.1 c.conclude.ensures.0 (c.conclude.ensures.1 ∙ c.width_at.ensures.0) c.conclude.ensures.2 c.conclude.ensures.3 ∙ evaluated-good (exp_of c.args.t.now c.args.n) c.args.kinds.now c.args.set.now c.args.rounds c.hold.new.env c.requires.2 (sym c.is_set.ensures ∙ c.if-not-is_set.false) (subst (λ (z : ℕ). Holds c.args.set.now (length c.args.kinds.now) z c.hold.new.env 32) c.requires.1 c.hold.ensures)

@@ -1,5 +1,6 @@
+use mathlib.Core.Logic.{inl, inr}
 use native.Mathlib.Omega.{arith}
-use Prim.Native.Nat.{◌-◌, ◌<◌}
+use Prim.Native.Nat.{◌<◌}
 use mathlib.Core.Path.{refl, sym, ◌∙◌, subst}
 use lib.ListN.{get_or}
 use Rattle.formula.specs.declared.Shape.TheVariants.{Identifier, Constant, Operator, Iter}
@@ -25,20 +26,21 @@ returns-in-Identifier c = part-identifier c.args.t.now c.args.widths.now c.args.
 pub returns-in-Constant : goal.returns-in-Constant
 returns-in-Constant c = part-constant c.args.t.now c.args.widths.now c.args.r c.requires.0 (env_of c.args.env.now) c.in-Constant.kind c.in-Constant.a c.constant_word.result (sym c.shape_at.ensures ∙ c.in-Constant.is) c.constant_word.ensures
 
-pub returns-in-Pair : goal.returns-in-Pair
-returns-in-Pair c = subst Compound (sym (sym c.shape_at.ensures ∙ c.in-Pair.is)) tt
-
 pub returns-in-Operator : goal.returns-in-Operator
 returns-in-Operator c = part-operator c.args.t.now c.args.widths.now c.args.r c.in-Operator.code c.in-Operator.b (env_of c.args.env.now) c.operator_at.result c.requires.0 (sym c.shape_at.ensures ∙ c.in-Operator.is) c.operator_at.ensures
 
-pub returns-in-Let : goal.returns-in-Let
-returns-in-Let c = subst Compound (sym (sym c.shape_at.ensures ∙ c.in-Let.is)) tt
-
-pub returns-in-If : goal.returns-in-If
-returns-in-If c = subst Compound (sym (sym c.shape_at.ensures ∙ c.in-If.is)) tt
-
-pub returns-in-For : goal.returns-in-For
-returns-in-For c = subst Compound (sym (sym c.shape_at.ensures ∙ c.in-For.is)) tt
-
-pub returns-in-Iter : goal.returns-in-Iter
-returns-in-Iter c = absurd (exp-needs c.args.t.now c.args.widths.now c.args.r c.requires.0 (Iter c.in-Iter.field-0) (sym c.shape_at.ensures ∙ c.in-Iter.is))
+pub returns-in-Pair : goal.returns-in-Pair
+returns-in-Pair c =
+    elim c.in-Pair.is [
+      | inl p ↦ subst Compound (sym p.2 ∙ c.shape_at.ensures) tt
+      | inr q ↦ elim q [
+        | inl p ↦ subst Compound (sym p.4 ∙ c.shape_at.ensures) tt
+        | inr q ↦ elim q [
+          | inl p ↦ subst Compound (sym p.3 ∙ c.shape_at.ensures) tt
+          | inr q ↦ elim q [
+            | inl p ↦ subst Compound (sym p.4 ∙ c.shape_at.ensures) tt
+            | inr p ↦ absurd (exp-needs c.args.t.now c.args.widths.now c.args.r c.requires.0 (Iter p.0) (sym c.shape_at.ensures ∙ p.1))
+          ]
+        ]
+      ]
+    ]

@@ -7,7 +7,4 @@ use Rattle.machine_log.specs.FollowLaws.{Underway}
 use Rattle.machine_log.proofs.follow.follow.Given as goal
 
 abbrev pub invariant-loop-j : goal.invariant-loop-j
-invariant-loop-j l = (length l.mem ≡ length l.initial.mem) × (length l.out ≡ length l.initial.out) × (l.j ≤ line_count l.log) × Underway (set_at l.size l.sets) l.log l.initial.mem l.initial.out l.j l.mem l.out l.count
-
-abbrev pub decreases-loop-j : goal.decreases-loop-j
-decreases-loop-j l = line_count l.log - l.j
+invariant-loop-j l = (length l.mem ≡ length l.initial.mem) × (length l.out ≡ length l.initial.out) × Underway (set_at l.size l.sets) l.log l.initial.mem l.initial.out l.j l.mem l.out l.count

@@ -36,4 +36,4 @@ returns-in-Take c =
     rw c.in-Take.is (stepped-take (set_at c.args.size c.args.sets.now) c.args.mem.now c.args.room.now p (handed c.take.result c.take.new.mem c.take.new.out) c.take.ensures)
 
 pub returns-in-Malformed : goal.returns-in-Malformed
-returns-in-Malformed c = rw (c.in-Malformed.is, c.refusal_number.ensures) (stepped-malformed (set_at c.args.size c.args.sets.now) c.args.mem.now c.args.room.now)
+returns-in-Malformed c = rw (c.in-Malformed.is, c.from.ensures) (stepped-malformed (set_at c.args.size c.args.sets.now) c.args.mem.now c.args.room.now)

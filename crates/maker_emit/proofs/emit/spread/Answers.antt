@@ -1,15 +1,31 @@
-use native.Mathlib.Omega.{arith}
-use Prim.Native.Nat.{◌-◌}
+use Rattle.std.proofs.Common.{◌≡◌, ◌+◌, ◌-◌, ◌*◌, arith, rules, refl, sym}
 use lib.ListN.{length-set}
-use Rattle.maker_emit.proofs.Emits.{chain-again, chain-over, ends-again, ends-ends, ends-over}
-use borrow.Author.Rules.{rules}
+use Rattle.maker_laid.specs.Emitted.{ends-none}
+use Rattle.maker_emit.proofs.Emits.{chain-again, chain-over, ends-again, ends-ends}
 use Rattle.maker_emit.proofs.emit.spread.Goals as goal
 
-pub loop-left-preserved : goal.loop-left-preserved
-loop-left-preserved c = (omega arith, c.loop-left.invariant.1, omega arith, omega arith, search rules, search rules, simp length-set c.loop-left.invariant.6, chain-again c.loop-left.c c.loop-left.to c.loop-left.left c.loop-left.mem c.loop-left.at _ c.loop-left.invariant.7 c.loop-left-test.true _ _ c.store_operator.ensures c.copy_of.ensures, ends-again c.loop-left.ends c.loop-left.i _ c.loop-left.c c.loop-left.to c.loop-left.left _ c.loop-left.invariant.8 c.loop-left.invariant.0 c.loop-left-test.true (omega arith))
+pub returns-then-k-eq0 : goal.returns-then-k-eq0
+returns-then-k-eq0 c = (chain-over _ _ c.args.k _ _ _ refl (omega arith), rw c.if-k-eq0.true (sym (ends-none _ _)))
 
-pub returns-then-left-eq1 : goal.returns-then-left-eq1
-returns-then-left-eq1 c = (chain-over c.loop-left.c c.loop-left.to c.loop-left.left c.loop-left.mem c.loop-left.at _ c.loop-left.invariant.7 (omega arith), ends-ends c.loop-left.ends c.loop-left.i _ c.loop-left.c c.loop-left.to c.loop-left.left _ c.loop-left.invariant.8 c.loop-left.invariant.0 c.if-left-eq1.true (omega arith))
+pub loop-i-preserved : goal.loop-i-preserved
+loop-i-preserved c =
+    let i = c.loop-i.i in
+    let a = c.args in
+    let s = c.loop-i.invariant in
+    let to = a.n + 2 * i in
+    let at : a.m + (i + 1) ≡ a.m + i + 1 = omega arith in
+    let next : a.n + 2 * (i + 1) ≡ to + 2 = omega arith in
+    let less : a.k - (i + 1) ≡ a.k - i - 1 = omega arith in
+    record {
+      room = search rules;
+      kept = search rules;
+      size = simp length-set s.size;
+      rest = rw (at, next, less) (chain-again _ _ _ _ _ _ s.rest (omega arith) _ _ c.store_operator.ensures c.copy_of.ensures);
+      links = rw (next, less) (ends-again _ _ a.k _ _ _ _ s.links (omega arith) (omega arith) (omega arith));
+    }
 
-pub returns-else-left-eq1 : goal.returns-else-left-eq1
-returns-else-left-eq1 c = (chain-over c.loop-left.c c.loop-left.to c.loop-left.left c.loop-left.mem c.loop-left.at _ c.loop-left.invariant.7 (omega arith), ends-over c.loop-left.ends c.loop-left.i _ c.loop-left.c c.loop-left.to c.loop-left.left _ c.loop-left.invariant.8 c.loop-left.invariant.0 (omega arith) c.if-left-eq1.false)
+pub returns : goal.returns
+returns c =
+    let s = c.loop-i.invariant in
+    let last : c.loop-i.i ≡ c.args.k - 1 = omega arith in
+    (chain-over _ _ _ _ _ _ s.rest (omega arith), rw (← last) (ends-ends _ _ _ _ _ _ _ s.links (omega arith) (omega arith) (omega arith)))

@@ -1,9 +1,8 @@
-use borrow.Enum.Refused.{opened}
 use native.Mathlib.Omega.{arith}
 use mathlib.Core.Path.{sym, ap, ◌∙◌}
 use mathlib.Core.Bool.{false≢true}
 use Rattle.sheet_sorts.specs.Shapes.{names_whole_row}
-use Rattle.sheet_sorts.proofs.Others.{no-pair}
+use Rattle.sheet_drift.proofs.NoPair.{no-pair}
 use Rattle.sheet_drift.specs.Moved.{in_table, first-row, second-row, first-product, second-product, product-first, product-second, product-named}
 use Rattle.sheet_drift.proofs.moves.multiplied.Goals as goal
 
@@ -11,7 +10,7 @@ pub shape_at-requires : goal.shape_at-requires
 shape_at-requires c = in_table c.args.t.now c.args.b c.requires.0.0
 
 pub returns-in_default : goal.returns-in_default
-returns-in_default c = absurd (false≢true (sym (no-pair c.args.t.now c.shape_at.result (opened c.in_default.in_default-own.keys2)).0 ∙ ap (names_whole_row c.args.t.now) c.shape_at.ensures ∙ product-named c.args.t.now c.args.b c.requires.0))
+returns-in_default c = absurd (false≢true (sym (no-pair c.args.t.now c.shape_at.result c.in_default.not-Pair).0 ∙ ap (names_whole_row c.args.t.now) c.shape_at.ensures ∙ product-named c.args.t.now c.args.b c.requires.0))
 
 pub is_whole-requires : goal.is_whole-requires
 is_whole-requires c = in_table c.args.t.now c.in-Pair.x (first-row c.args.t.now c.args.b c.requires.0.0 c.in-Pair.x c.in-Pair.y (sym c.shape_at.ensures ∙ c.in-Pair.is))

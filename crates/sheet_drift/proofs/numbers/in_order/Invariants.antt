@@ -7,6 +7,3 @@ use Rattle.sheet_drift.proofs.numbers.in_order.Given as goal
 
 abbrev pub invariant-loop-k : goal.invariant-loop-k
 invariant-loop-k l = (l.k ≤ 32) × (l.i ≡ below (set_in l.free) l.k) × (l.i ≤ l.k) × InOrder l.s l.free l.env l.k
-
-abbrev pub decreases-loop-k : goal.decreases-loop-k
-decreases-loop-k l = 32 - l.k

@@ -1,19 +1,21 @@
 use native.Mathlib.Omega.{arith}
-use lib.ListN.{length-set}
-use Rattle.sheet_drift.specs.Numbers.{number_put}
+use lib.ListN.{take, drop}
+use lib.Seq.{sets, sets-eq, drop-drop}
+use mathlib.Core.List.{List, [], ◌∷◌, ◌++◌}
+use mathlib.Core.Path.{◌≡◌, ap, ◌∙◌, sym, refl}
+use Prim.Native.Nat.{ℕ, ◌+◌, ◌-◌, ◌/◌, ◌≤◌}
+use lib.ListN.{length}
+use Rattle.std.proofs.Common.{append_assoc}
+use Rattle.std.specs.Int.{to_le_bytes}
+use Rattle.sheet_movement.specs.Moves.{number_bytes}
 use Rattle.sheet_drift.proofs.numbers.put_number.Goals as goal
 
-pub bounds-out-at-2 : goal.bounds-out-at-2
-bounds-out-at-2 c = simp length-set (omega arith)
-
-pub bounds-out-at-3 : goal.bounds-out-at-3
-bounds-out-at-3 c = simp length-set (omega arith)
-
-pub bounds-out-at-4 : goal.bounds-out-at-4
-bounds-out-at-4 c = simp length-set (omega arith)
-
-pub shape_of-out : goal.shape_of-out
-shape_of-out c = simp length-set
+put-is : (l vs : List ℕ) (at : ℕ) → at + length vs ≤ length l → take at l ++ (vs ++ drop (length vs) (drop at l)) ≡ sets l at vs
+put-is l vs at h = ap (λ r. take at l ++ (vs ++ r)) (drop-drop (length vs) at l) ∙ sym (append_assoc (take at l) vs (drop (at + length vs) l)) ∙ sym (sets-eq vs l at h)
 
 pub returns : goal.returns
-returns c = number_put c.args.out.now c.args.at c.args.d
+unfolding number_bytes
+returns c =
+    let e : c.args.at + 4 - c.args.at ≡ 4 = omega arith in
+    let d : c.to_le_bytes.result ≡ number_bytes (c.args.d ∷ []) = c.to_le_bytes.ensures in
+    rw (e, c.copy_from_slice.ensures.after, d) (put-is c.args.out.now (number_bytes (c.args.d ∷ [])) c.args.at c.requires)

@@ -14,14 +14,14 @@ returns-then-s-inputs c = sym (other-count c.args.inputs c.args.s.now c.if-s-inp
 pub loop-i-init : goal.loop-i-init
 loop-i-init c = (omega arith, well-start c.args.inputs c.args.s.now c.if-s-inputs.false)
 
-pub returns-then-number_at-gt-MOST : goal.returns-then-number_at-gt-MOST
-returns-then-number_at-gt-MOST c =
-    let e : leb (number_at c.args.s.now (4 * c.loop-i.i)) 2147483647 ≡ false = lt-leb (number_at c.args.s.now (4 * c.loop-i.i)) 2147483647 (omega (arith, c.if-number_at-gt-MOST.true, c.number_at.ensures)) in
+pub returns-then-from-gt-MOST : goal.returns-then-from-gt-MOST
+returns-then-from-gt-MOST c =
+    let e : leb (number_at c.args.s.now (4 * c.loop-i.i)) 2147483647 ≡ false = lt-leb (number_at c.args.s.now (4 * c.loop-i.i)) 2147483647 (omega (arith, c.if-from-gt-MOST.true, c.number_at.ensures, c.from.ensures)) in
     sym (c.loop-i.invariant.1 ∙ well-step c.args.inputs c.args.s.now c.loop-i.i c.loop-i-test.true ∙ ap (λ (x : Bool). x && within_from c.args.inputs c.args.s.now (c.loop-i.i + 1)) e)
 
 pub loop-i-preserved : goal.loop-i-preserved
 loop-i-preserved c =
-    let e : leb (number_at c.args.s.now (4 * c.loop-i.i)) 2147483647 ≡ true = le-leb (number_at c.args.s.now (4 * c.loop-i.i)) 2147483647 (omega (arith, c.if-number_at-gt-MOST.false, c.number_at.ensures)) in
+    let e : leb (number_at c.args.s.now (4 * c.loop-i.i)) 2147483647 ≡ true = le-leb (number_at c.args.s.now (4 * c.loop-i.i)) 2147483647 (omega (arith, c.if-from-gt-MOST.false, c.number_at.ensures, c.from.ensures)) in
     (omega arith, c.loop-i.invariant.1 ∙ well-step c.args.inputs c.args.s.now c.loop-i.i c.loop-i-test.true ∙ ap (λ (x : Bool). x && within_from c.args.inputs c.args.s.now (c.loop-i.i + 1)) e)
 
 pub returns : goal.returns

@@ -6,6 +6,3 @@ use Rattle.sheet_drift.proofs.numbers.tolerances_well.Given as goal
 
 abbrev pub invariant-loop-i : goal.invariant-loop-i
 invariant-loop-i l = (l.i ≤ l.inputs) × (tolerances_well l.inputs l.s ≡ within_from l.inputs l.s l.i)
-
-abbrev pub decreases-loop-i : goal.decreases-loop-i
-decreases-loop-i l = l.inputs - l.i

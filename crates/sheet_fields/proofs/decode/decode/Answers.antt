@@ -1,7 +1,7 @@
 use mathlib.Core.Path.{sym, ◌∙◌, ap, refl, ◌≡◌}
 use mathlib.Core.Bool.{true, false}
 use native.Mathlib.Omega.{arith}
-use Prim.Native.Nat.{◌+◌, ◌-◌, ◌*◌}
+use Prim.Native.Nat.{◌+◌, ◌*◌}
 use Rattle.formula.specs.Tests.{fields_well, line_at}
 use Rattle.formula.proofs.TestLaws.{starts, goes_on, stops, ends}
 use lib.Seq.{paste, paste-zero, sets}

@@ -28,5 +28,5 @@ returns c =
     let w = sym (fields-well-at s i c.requires.0) in
     let l = line-fields-at s i c.requires.0 in (
       simp (c.all_formed.ensures, c.field_in-kind.ensures, c.field_in-a.ensures, c.field_in-b.ensures, c.field_in-c.ensures, c.field_in-d.ensures) w,
-      rw (l, sym c.field_in-kind.ensures, sym c.field_in-a.ensures, sym c.field_in-b.ensures, sym c.field_in-c.ensures, sym c.field_in-d.ensures, sym c.number.ensures, sym c.number-2.ensures, sym c.number-3.ensures, sym c.number-4.ensures, sym c.number-5.ensures) (stored c.args.fields.now (5 * i) c.number.result c.number-2.result c.number-3.result c.number-4.result c.number-5.result),
+      rw (l, sym c.field_in-kind.ensures, sym c.field_in-a.ensures, sym c.field_in-b.ensures, sym c.field_in-c.ensures, sym c.field_in-d.ensures, sym c.unwrap_or.ensures, sym c.unwrap_or-2.ensures, sym c.unwrap_or-3.ensures, sym c.unwrap_or-4.ensures, sym c.unwrap_or-5.ensures) (stored c.args.fields.now (5 * i) c.unwrap_or.result c.unwrap_or-2.result c.unwrap_or-3.result c.unwrap_or-4.result c.unwrap_or-5.result),
     )

@@ -1,5 +1,5 @@
 use native.Mathlib.Omega.{arith}
-use Prim.Native.Nat.{◌+◌, ◌-◌}
+use Prim.Native.Nat.{◌+◌}
 use mathlib.Core.Path.{◌≡◌, sym, ◌∙◌, refl}
 use Rattle.sheet_fields.proofs.FieldLaws.{field-space}
 use Rattle.sheet_fields.proofs.field.blanks.Goals as goal

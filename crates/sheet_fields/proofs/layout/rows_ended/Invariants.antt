@@ -6,6 +6,3 @@ use Rattle.sheet_fields.proofs.layout.rows_ended.Given as goal
 
 abbrev pub invariant-loop-i : goal.invariant-loop-i
 invariant-loop-i l = (l.i ≤ l.n) × (lowest_from (l.i + 1) (l.n - l.i) (ended_at (lines_of l.s)) ≡ lowest l.n (ended_at (lines_of l.s)))
-
-abbrev pub decreases-loop-i : goal.decreases-loop-i
-decreases-loop-i l = l.n - l.i

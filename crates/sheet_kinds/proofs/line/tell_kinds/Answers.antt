@@ -1,6 +1,5 @@
 use native.Mathlib.Omega.{arith}
 use mathlib.Core.Path.{◌≡◌, sym, ◌∙◌}
-use Prim.Native.Nat.{◌-◌}
 use Rattle.names.proofs.Sets.{below-zero}
 use Rattle.eval_words.specs.Inputs.{set_in, below_more}
 use Rattle.sheet_kinds.specs.Line.{tells_none, tells_more}

@@ -1,10 +1,10 @@
 use native.Mathlib.Omega.{arith}
 use Prim.Native.Nat.{ℕ, ◌+◌}
-use mathlib.Core.Path.{◌≡◌, refl, sym, ap, ◌∙◌, subst}
-use mathlib.Core.Bool.{Bool, true, ◌&&◌}
+use mathlib.Core.Path.{◌≡◌, refl, sym, ap, ◌∙◌}
+use mathlib.Core.Bool.{true, ◌&&◌}
 use mathlib.Core.List.{[], ◌∷◌}
-use lib.ListN.{length, get_or, replicate}
-use Rattle.formula.specs.declared.Check.{Check}
+use lib.ListN.{get_or, replicate}
+use Rattle.formula.specs.Results.{Check}
 use Rattle.formula.specs.declared.Shape.TheVariants.{Identifier, Constant, Pair, Operator, Let, If, For, Iter}
 use Rattle.formula.specs.declared.Way.TheVariants.{Iter as iter-way, Let as let-way, If as if-way, End}
 use Rattle.formula.specs.Kinds.{same_kinds}
@@ -19,6 +19,7 @@ use Rattle.sheet_kinds.specs.KindWidths.{counted_back}
 use Rattle.sheet_kinds.specs.Walk.{lowest_at, Told, tell-identifier, tell-constant, tell-pair, tell-operator, tell-let, tell-if, tell-for}
 use Rattle.sheet_kinds.specs.WalkBody.{Held, shaped-as, tell-iter, tell-ending, tell-let-B, tell-if-B}
 use Rattle.sheet_kinds.proofs.walk.+arms_body_kinds_codes_exp_kinds_fors_ifs.Goals as goal
+use Rattle.sheet_kinds.proofs.walk.+arms_body_kinds_codes_exp_kinds_fors_ifs.Goals.{arms-then-all_kinds, arms-else-all_kinds, arms-then-rounds, arms-else-rounds, ifs-then-all_kinds, ifs-else-all_kinds}
 
 pub arms-exp_kinds-tested-requires : goal.arms-exp_kinds-tested-requires
 arms-exp_kinds-tested-requires t c = let k : BodyChildren c.args.t.now c.args.widths.now c.args.r (If c.args.a c.args.b c.args.c) = body-children c.args.t.now c.args.widths.now c.args.r c.requires.0 (If c.args.a c.args.b c.args.c) c.requires.4 in let f : BodyNeeds c.args.t.now c.args.widths.now c.args.r (If c.args.a c.args.b c.args.c) = body-needs c.args.t.now c.args.widths.now c.args.r c.requires.0 (If c.args.a c.args.b c.args.c) c.requires.4 in (omega (arith, k.0.1), (k.0.0, c.requires.1, omega (arith, f.0)))
@@ -51,7 +52,9 @@ pub arms-shape_of-back : goal.arms-shape_of-back
 arms-shape_of-back t c = c.hold_first-2.ensures.2 ∙ sym c.requires.3
 
 pub arms-returns : goal.arms-returns
-arms-returns t c = let p : Held (body_of c.args.t.now c.args.r) (kinds_in c.args.env.now) c.hold_first.new.first c.hold_first.result c.hold_first-2.new.first c.hold_first-2.result × (lesser (own c.args.r c.both-ok.result) (lesser c.exp_kinds-tested.result (lesser c.body_kinds-first.result.fault c.body_kinds-second.result.fault)) ≡ lowest_at c.args.t.now true (kinds_in c.args.env.now) c.args.r) = tell-if-B c.args.t.now c.args.widths.now c.args.r c.requires.0 (kinds_in c.args.env.now) c.args.a c.args.b c.args.c c.requires.4 (0 ∷ []) c.exp_kinds-tested.new.out c.body_kinds-first.new.again c.body_kinds-first.new.back c.body_kinds-second.new.again c.body_kinds-second.new.back c.hold_first.new.first c.hold_first-2.new.first c.body_kinds-first.result.again c.body_kinds-first.result.back c.body_kinds-second.result.again c.body_kinds-second.result.back c.hold_first.result c.hold_first-2.result c.exp_kinds-tested.result c.body_kinds-first.result.fault c.body_kinds-second.result.fault c.all_kinds.result c.agree-rounds.result c.agree-ends.result c.both-ok.result c.exp_kinds-tested.ensures c.body_kinds-first.ensures.0 c.body_kinds-second.ensures.0 c.all_kinds.ensures c.agree-rounds.ensures c.agree-ends.ensures (c.both-ok.ensures ∙ ap (λ (z : Bool). z && c.agree-ends.result) c.both.ensures) (c.hold_first.ensures.0, c.hold_first.ensures.1) (c.hold_first-2.ensures.0, c.hold_first-2.ensures.1) in ((p.0, c.lower-3.ensures ∙ (λ j. lesser (c.own.ensures j) ((c.lower-2.ensures ∙ ap (lesser c.exp_kinds-tested.result) c.lower.ensures) j)) ∙ p.1), c.hold_first.ensures.2, c.hold_first-2.ensures.2)
+arms-returns t c =
+    let ok : c.if-rounds.ok ≡ (c.all_kinds.result && c.agree-rounds.result && c.agree-ends.result) = elim c.if-rounds.branch [ arms-then-rounds w ↦ rw (w.if-rounds.true.0, w.if-rounds.true.1) w.ok-is | arms-else-rounds w ↦ grind arith ] in
+    let p : Held (body_of c.args.t.now c.args.r) (kinds_in c.args.env.now) c.hold_first.new.first c.hold_first.result c.hold_first-2.new.first c.hold_first-2.result × (lesser (own c.args.r c.if-rounds.ok) (lesser c.exp_kinds-tested.result (lesser c.body_kinds-first.result.fault c.body_kinds-second.result.fault)) ≡ lowest_at c.args.t.now true (kinds_in c.args.env.now) c.args.r) = tell-if-B c.args.t.now c.args.widths.now c.args.r c.requires.0 (kinds_in c.args.env.now) c.args.a c.args.b c.args.c c.requires.4 (0 ∷ []) c.exp_kinds-tested.new.out c.body_kinds-first.new.again c.body_kinds-first.new.back c.body_kinds-second.new.again c.body_kinds-second.new.back c.hold_first.new.first c.hold_first-2.new.first c.body_kinds-first.result.again c.body_kinds-first.result.back c.body_kinds-second.result.again c.body_kinds-second.result.back c.hold_first.result c.hold_first-2.result c.exp_kinds-tested.result c.body_kinds-first.result.fault c.body_kinds-second.result.fault c.all_kinds.result c.agree-rounds.result c.agree-ends.result c.if-rounds.ok c.exp_kinds-tested.ensures c.body_kinds-first.ensures.0 c.body_kinds-second.ensures.0 c.all_kinds.ensures c.agree-rounds.ensures c.agree-ends.ensures ok (c.hold_first.ensures.0, c.hold_first.ensures.1) (c.hold_first-2.ensures.0, c.hold_first-2.ensures.1) in ((p.0, c.lower-3.ensures ∙ (λ j. lesser (c.own.ensures j) ((c.lower-2.ensures ∙ ap (lesser c.exp_kinds-tested.result) c.lower.ensures) j)) ∙ p.1), c.hold_first.ensures.2, c.hold_first-2.ensures.2)
 
 pub body_kinds-exp_kinds-requires : goal.body_kinds-exp_kinds-requires
 body_kinds-exp_kinds-requires t c = let k : BodyChildren c.args.t.now c.args.widths.now c.args.r (Iter c.in-Iter.a) = body-children c.args.t.now c.args.widths.now c.args.r c.requires.0 (Iter c.in-Iter.a) (shaped-as (shape_at c.args.t.now c.args.r) (iter-way c.in-Iter.a) (sym c.in-Iter.is ∙ c.way_at.ensures)) in (omega (arith, k.1), (k.0, c.requires.1, omega (arith, narrow c.args.t.now c.args.widths.now c.in-Iter.a k.0, c.requires.2)))
@@ -60,10 +63,10 @@ pub body_kinds-width_at-requires : goal.body_kinds-width_at-requires
 body_kinds-width_at-requires t c = let k : BodyChildren c.args.t.now c.args.widths.now c.args.r (Iter c.in-Iter.a) = body-children c.args.t.now c.args.widths.now c.args.r c.requires.0 (Iter c.in-Iter.a) (shaped-as (shape_at c.args.t.now c.args.r) (iter-way c.in-Iter.a) (sym c.in-Iter.is ∙ c.way_at.ensures)) in (k.0.low, omega (arith, k.0.high, k.0.accepted.table))
 
 pub body_kinds-exp_kinds-bound-requires : goal.body_kinds-exp_kinds-bound-requires
-body_kinds-exp_kinds-bound-requires t c = let k : BodyChildren c.args.t.now c.args.widths.now c.args.r (Let c.in-Let.a c.in-Let.field-1 c.in-Let.c c.in-Let.d) = body-children c.args.t.now c.args.widths.now c.args.r c.requires.0 (Let c.in-Let.a c.in-Let.field-1 c.in-Let.c c.in-Let.d) (shaped-as (shape_at c.args.t.now c.args.r) (let-way c.in-Let.a c.in-Let.field-1 c.in-Let.c c.in-Let.d) (sym c.in-Let.is ∙ c.way_at.ensures)) in let f : BodyNeeds c.args.t.now c.args.widths.now c.args.r (Let c.in-Let.a c.in-Let.field-1 c.in-Let.c c.in-Let.d) = body-needs c.args.t.now c.args.widths.now c.args.r c.requires.0 (Let c.in-Let.a c.in-Let.field-1 c.in-Let.c c.in-Let.d) (shaped-as (shape_at c.args.t.now c.args.r) (let-way c.in-Let.a c.in-Let.field-1 c.in-Let.c c.in-Let.d) (sym c.in-Let.is ∙ c.way_at.ensures)) in (omega (arith, k.0.1), (k.0.0, c.requires.1, omega (arith, f.0, f.1, c.wide.ensures, ap length c.copied-inner.ensures, c.requires.1)))
+body_kinds-exp_kinds-bound-requires t c = let k : BodyChildren c.args.t.now c.args.widths.now c.args.r (Let c.in-Let.a c.in-Let.field-1 c.in-Let.c c.in-Let.d) = body-children c.args.t.now c.args.widths.now c.args.r c.requires.0 (Let c.in-Let.a c.in-Let.field-1 c.in-Let.c c.in-Let.d) (shaped-as (shape_at c.args.t.now c.args.r) (let-way c.in-Let.a c.in-Let.field-1 c.in-Let.c c.in-Let.d) (sym c.in-Let.is ∙ c.way_at.ensures)) in let f : BodyNeeds c.args.t.now c.args.widths.now c.args.r (Let c.in-Let.a c.in-Let.field-1 c.in-Let.c c.in-Let.d) = body-needs c.args.t.now c.args.widths.now c.args.r c.requires.0 (Let c.in-Let.a c.in-Let.field-1 c.in-Let.c c.in-Let.d) (shaped-as (shape_at c.args.t.now c.args.r) (let-way c.in-Let.a c.in-Let.field-1 c.in-Let.c c.in-Let.d) (sym c.in-Let.is ∙ c.way_at.ensures)) in (omega (arith, k.0.1), (k.0.0, c.requires.1, omega (arith, f.0, f.1, c.requires.1)))
 
 pub body_kinds-body_kinds-rest-requires : goal.body_kinds-body_kinds-rest-requires
-body_kinds-body_kinds-rest-requires t c = let k : BodyChildren c.args.t.now c.args.widths.now c.args.r (Let c.in-Let.a c.in-Let.field-1 c.in-Let.c c.in-Let.d) = body-children c.args.t.now c.args.widths.now c.args.r c.requires.0 (Let c.in-Let.a c.in-Let.field-1 c.in-Let.c c.in-Let.d) (shaped-as (shape_at c.args.t.now c.args.r) (let-way c.in-Let.a c.in-Let.field-1 c.in-Let.c c.in-Let.d) (sym c.in-Let.is ∙ c.way_at.ensures)) in (omega (arith, k.1.1), (k.1.0, c.exp_kinds-bound.ensures.0.1 ∙ ap length c.copied-inner.ensures ∙ c.requires.1, c.requires.2, c.requires.3))
+body_kinds-body_kinds-rest-requires t c = let k : BodyChildren c.args.t.now c.args.widths.now c.args.r (Let c.in-Let.a c.in-Let.field-1 c.in-Let.c c.in-Let.d) = body-children c.args.t.now c.args.widths.now c.args.r c.requires.0 (Let c.in-Let.a c.in-Let.field-1 c.in-Let.c c.in-Let.d) (shaped-as (shape_at c.args.t.now c.args.r) (let-way c.in-Let.a c.in-Let.field-1 c.in-Let.c c.in-Let.d) (sym c.in-Let.is ∙ c.way_at.ensures)) in (omega (arith, k.1.1), (k.1.0, c.exp_kinds-bound.ensures.0.1 ∙ c.requires.1, c.requires.2, c.requires.3))
 
 pub body_kinds-arms-requires : goal.body_kinds-arms-requires
 body_kinds-arms-requires t c = (omega arith, (c.requires.0, c.requires.1, c.requires.2, c.requires.3, (shaped-as (shape_at c.args.t.now c.args.r) (if-way c.in-If.a c.in-If.b c.in-If.c) (sym c.in-If.is ∙ c.way_at.ensures))))
@@ -87,7 +90,7 @@ pub body_kinds-shape_of-back-in-Let : goal.body_kinds-shape_of-back-in-Let
 body_kinds-shape_of-back-in-Let t c = c.body_kinds-rest.ensures.2 ∙ sym c.requires.3
 
 pub body_kinds-returns-in-Let : goal.body_kinds-returns-in-Let
-body_kinds-returns-in-Let t c = let w : Told c.args.t.now c.in-Let.c (kinds_in c.args.env.now) c.in-Let.a c.copied-inner.result c.exp_kinds-bound.new.out c.exp_kinds-bound.result = subst (λ (z : ℕ). Told c.args.t.now c.in-Let.c (kinds_in c.args.env.now) z c.copied-inner.result c.exp_kinds-bound.new.out c.exp_kinds-bound.result) c.wide.ensures c.exp_kinds-bound.ensures in let p : Held (body_of c.args.t.now c.args.r) (kinds_in c.args.env.now) c.body_kinds-rest.new.again c.body_kinds-rest.result.again c.body_kinds-rest.new.back c.body_kinds-rest.result.back × (lesser c.exp_kinds-bound.result c.body_kinds-rest.result.fault ≡ lowest_at c.args.t.now true (kinds_in c.args.env.now) c.args.r) = tell-let-B c.args.t.now c.args.widths.now c.args.r c.requires.0 (kinds_in c.args.env.now) c.in-Let.a c.in-Let.field-1 c.in-Let.c c.in-Let.d (shaped-as (shape_at c.args.t.now c.args.r) (let-way c.in-Let.a c.in-Let.field-1 c.in-Let.c c.in-Let.d) (sym c.in-Let.is ∙ c.way_at.ensures)) c.copied-inner.result c.exp_kinds-bound.new.out c.body_kinds-rest.new.again c.body_kinds-rest.new.back c.body_kinds-rest.result.again c.body_kinds-rest.result.back c.exp_kinds-bound.result c.body_kinds-rest.result.fault (ap kinds_in c.copied-inner.ensures) w c.body_kinds-rest.ensures.0 in ((p.0, c.lower.ensures ∙ p.1), c.body_kinds-rest.ensures.1, c.body_kinds-rest.ensures.2)
+body_kinds-returns-in-Let t c = let p : Held (body_of c.args.t.now c.args.r) (kinds_in c.args.env.now) c.body_kinds-rest.new.again c.body_kinds-rest.result.again c.body_kinds-rest.new.back c.body_kinds-rest.result.back × (lesser c.exp_kinds-bound.result c.body_kinds-rest.result.fault ≡ lowest_at c.args.t.now true (kinds_in c.args.env.now) c.args.r) = tell-let-B c.args.t.now c.args.widths.now c.args.r c.requires.0 (kinds_in c.args.env.now) c.in-Let.a c.in-Let.field-1 c.in-Let.c c.in-Let.d (shaped-as (shape_at c.args.t.now c.args.r) (let-way c.in-Let.a c.in-Let.field-1 c.in-Let.c c.in-Let.d) (sym c.in-Let.is ∙ c.way_at.ensures)) c.args.env.now c.exp_kinds-bound.new.out c.body_kinds-rest.new.again c.body_kinds-rest.new.back c.body_kinds-rest.result.again c.body_kinds-rest.result.back c.exp_kinds-bound.result c.body_kinds-rest.result.fault refl c.exp_kinds-bound.ensures c.body_kinds-rest.ensures.0 in ((p.0, c.lower.ensures ∙ p.1), c.body_kinds-rest.ensures.1, c.body_kinds-rest.ensures.2)
 
 pub body_kinds-shape_of-again-in-If : goal.body_kinds-shape_of-again-in-If
 body_kinds-shape_of-again-in-If t c = c.arms.ensures.1 ∙ sym c.requires.2
@@ -147,16 +150,16 @@ pub exp_kinds-codes-requires : goal.exp_kinds-codes-requires
 exp_kinds-codes-requires t c = (omega arith, (c.requires.0, c.requires.1, c.requires.2, (sym c.shape_at.ensures ∙ c.in-Operator.is)))
 
 pub exp_kinds-exp_kinds-bound-requires : goal.exp_kinds-exp_kinds-bound-requires
-exp_kinds-exp_kinds-bound-requires t c = let k : ExpChildren c.args.t.now c.args.widths.now c.args.r (Let c.in-Let.a c.in-Let.field-1 c.in-Let.c c.in-Let.d) = exp-children c.args.t.now c.args.widths.now c.args.r c.requires.0 (Let c.in-Let.a c.in-Let.field-1 c.in-Let.c c.in-Let.d) (sym c.shape_at.ensures ∙ c.in-Let.is) in let f : ExpNeeds c.args.t.now c.args.widths.now c.args.r (Let c.in-Let.a c.in-Let.field-1 c.in-Let.c c.in-Let.d) = exp-needs c.args.t.now c.args.widths.now c.args.r c.requires.0 (Let c.in-Let.a c.in-Let.field-1 c.in-Let.c c.in-Let.d) (sym c.shape_at.ensures ∙ c.in-Let.is) in (omega (arith, k.0.1), (k.0.0, c.requires.1, omega (arith, f.0, f.1, c.wide.ensures, ap length c.copied-inner.ensures, c.requires.1)))
+exp_kinds-exp_kinds-bound-requires t c = let k : ExpChildren c.args.t.now c.args.widths.now c.args.r (Let c.in-Let.a c.in-Let.field-1 c.in-Let.c c.in-Let.d) = exp-children c.args.t.now c.args.widths.now c.args.r c.requires.0 (Let c.in-Let.a c.in-Let.field-1 c.in-Let.c c.in-Let.d) (sym c.shape_at.ensures ∙ c.in-Let.is) in let f : ExpNeeds c.args.t.now c.args.widths.now c.args.r (Let c.in-Let.a c.in-Let.field-1 c.in-Let.c c.in-Let.d) = exp-needs c.args.t.now c.args.widths.now c.args.r c.requires.0 (Let c.in-Let.a c.in-Let.field-1 c.in-Let.c c.in-Let.d) (sym c.shape_at.ensures ∙ c.in-Let.is) in (omega (arith, k.0.1), (k.0.0, c.requires.1, omega (arith, f.0, f.1, c.requires.1)))
 
 pub exp_kinds-exp_kinds-rest-requires : goal.exp_kinds-exp_kinds-rest-requires
-exp_kinds-exp_kinds-rest-requires t c = let k : ExpChildren c.args.t.now c.args.widths.now c.args.r (Let c.in-Let.a c.in-Let.field-1 c.in-Let.c c.in-Let.d) = exp-children c.args.t.now c.args.widths.now c.args.r c.requires.0 (Let c.in-Let.a c.in-Let.field-1 c.in-Let.c c.in-Let.d) (sym c.shape_at.ensures ∙ c.in-Let.is) in let f : ExpNeeds c.args.t.now c.args.widths.now c.args.r (Let c.in-Let.a c.in-Let.field-1 c.in-Let.c c.in-Let.d) = exp-needs c.args.t.now c.args.widths.now c.args.r c.requires.0 (Let c.in-Let.a c.in-Let.field-1 c.in-Let.c c.in-Let.d) (sym c.shape_at.ensures ∙ c.in-Let.is) in (omega (arith, k.1.1), (k.1.0, c.exp_kinds-bound.ensures.0.1 ∙ ap length c.copied-inner.ensures ∙ c.requires.1, omega (arith, f.2, c.requires.2)))
+exp_kinds-exp_kinds-rest-requires t c = let k : ExpChildren c.args.t.now c.args.widths.now c.args.r (Let c.in-Let.a c.in-Let.field-1 c.in-Let.c c.in-Let.d) = exp-children c.args.t.now c.args.widths.now c.args.r c.requires.0 (Let c.in-Let.a c.in-Let.field-1 c.in-Let.c c.in-Let.d) (sym c.shape_at.ensures ∙ c.in-Let.is) in let f : ExpNeeds c.args.t.now c.args.widths.now c.args.r (Let c.in-Let.a c.in-Let.field-1 c.in-Let.c c.in-Let.d) = exp-needs c.args.t.now c.args.widths.now c.args.r c.requires.0 (Let c.in-Let.a c.in-Let.field-1 c.in-Let.c c.in-Let.d) (sym c.shape_at.ensures ∙ c.in-Let.is) in (omega (arith, k.1.1), (k.1.0, c.exp_kinds-bound.ensures.0.1 ∙ c.requires.1, omega (arith, f.2, c.requires.2)))
 
 pub exp_kinds-ifs-requires : goal.exp_kinds-ifs-requires
 exp_kinds-ifs-requires t c = (omega arith, (c.requires.0, c.requires.1, c.requires.2, (sym c.shape_at.ensures ∙ c.in-If.is)))
 
 pub exp_kinds-fors-requires : goal.exp_kinds-fors-requires
-exp_kinds-fors-requires t c = (omega arith, (c.requires.0, c.requires.1, c.requires.2, (sym c.shape_at.ensures ∙ c.in-For.is) ∙ (λ j. For (sym c.wide-in-For.ensures j) (sym c.wide-in-For-2.ensures j) c.in-For.c c.in-For.d)))
+exp_kinds-fors-requires t c = (omega arith, (c.requires.0, c.requires.1, c.requires.2, (sym c.shape_at.ensures ∙ c.in-For.is)))
 
 pub exp_kinds-shape_of-out-in-Identifier : goal.exp_kinds-shape_of-out-in-Identifier
 exp_kinds-shape_of-out-in-Identifier t c = c.put_kind.ensures.1
@@ -187,7 +190,7 @@ pub exp_kinds-shape_of-out-in-Let : goal.exp_kinds-shape_of-out-in-Let
 exp_kinds-shape_of-out-in-Let t c = c.exp_kinds-rest.ensures.0.1
 
 pub exp_kinds-returns-in-Let : goal.exp_kinds-returns-in-Let
-exp_kinds-returns-in-Let t c = let w : Told c.args.t.now c.in-Let.c (kinds_in c.args.env.now) c.in-Let.a c.copied-inner.result c.exp_kinds-bound.new.out c.exp_kinds-bound.result = subst (λ (z : ℕ). Told c.args.t.now c.in-Let.c (kinds_in c.args.env.now) z c.copied-inner.result c.exp_kinds-bound.new.out c.exp_kinds-bound.result) c.wide.ensures c.exp_kinds-bound.ensures in let p : Told c.args.t.now c.args.r (kinds_in c.args.env.now) c.args.at c.args.out.now c.exp_kinds-rest.new.out (lesser c.exp_kinds-bound.result c.exp_kinds-rest.result) = tell-let c.args.t.now c.args.widths.now c.args.r c.requires.0 (kinds_in c.args.env.now) c.args.at c.args.out.now c.exp_kinds-rest.new.out c.in-Let.a c.in-Let.field-1 c.in-Let.c c.in-Let.d (sym c.shape_at.ensures ∙ c.in-Let.is) c.copied-inner.result c.exp_kinds-bound.new.out c.exp_kinds-bound.result c.exp_kinds-rest.result (ap kinds_in c.copied-inner.ensures) w c.exp_kinds-rest.ensures in (p.0, c.lower-in-Let.ensures ∙ p.1)
+exp_kinds-returns-in-Let t c = let p : Told c.args.t.now c.args.r (kinds_in c.args.env.now) c.args.at c.args.out.now c.exp_kinds-rest.new.out (lesser c.exp_kinds-bound.result c.exp_kinds-rest.result) = tell-let c.args.t.now c.args.widths.now c.args.r c.requires.0 (kinds_in c.args.env.now) c.args.at c.args.out.now c.exp_kinds-rest.new.out c.in-Let.a c.in-Let.field-1 c.in-Let.c c.in-Let.d (sym c.shape_at.ensures ∙ c.in-Let.is) c.args.env.now c.exp_kinds-bound.new.out c.exp_kinds-bound.result c.exp_kinds-rest.result refl c.exp_kinds-bound.ensures c.exp_kinds-rest.ensures in (p.0, c.lower-in-Let.ensures ∙ p.1)
 
 pub exp_kinds-shape_of-out-in-If : goal.exp_kinds-shape_of-out-in-If
 exp_kinds-shape_of-out-in-If t c = c.ifs.ensures.0.1
@@ -205,13 +208,13 @@ pub exp_kinds-returns-in-Iter : goal.exp_kinds-returns-in-Iter
 exp_kinds-returns-in-Iter t c = absurd (exp-children c.args.t.now c.args.widths.now c.args.r c.requires.0 (Iter c.in-Iter.field-0) (sym c.shape_at.ensures ∙ c.in-Iter.is))
 
 pub fors-exp_kinds-started-requires : goal.fors-exp_kinds-started-requires
-fors-exp_kinds-started-requires t c = let k : ExpChildren c.args.t.now c.args.widths.now c.args.r (For c.args.a c.args.b c.args.c c.args.d) = exp-children c.args.t.now c.args.widths.now c.args.r c.requires.0 (For c.args.a c.args.b c.args.c c.args.d) c.requires.3 in let f : ExpNeeds c.args.t.now c.args.widths.now c.args.r (For c.args.a c.args.b c.args.c c.args.d) = exp-needs c.args.t.now c.args.widths.now c.args.r c.requires.0 (For c.args.a c.args.b c.args.c c.args.d) c.requires.3 in (omega (arith, k.0.1), (k.0.0, c.requires.1, omega (arith, f.0, f.1, ap length c.copied-inner.ensures, c.requires.1)))
+fors-exp_kinds-started-requires t c = let k : ExpChildren c.args.t.now c.args.widths.now c.args.r (For c.args.a c.args.b c.args.c c.args.d) = exp-children c.args.t.now c.args.widths.now c.args.r c.requires.0 (For c.args.a c.args.b c.args.c c.args.d) c.requires.3 in let f : ExpNeeds c.args.t.now c.args.widths.now c.args.r (For c.args.a c.args.b c.args.c c.args.d) = exp-needs c.args.t.now c.args.widths.now c.args.r c.requires.0 (For c.args.a c.args.b c.args.c c.args.d) c.requires.3 in (omega (arith, k.0.1), (k.0.0, c.requires.1, omega (arith, f.0, f.1, c.requires.1)))
 
 pub fors-body_kinds-round-requires : goal.fors-body_kinds-round-requires
-fors-body_kinds-round-requires t c = let k : ExpChildren c.args.t.now c.args.widths.now c.args.r (For c.args.a c.args.b c.args.c c.args.d) = exp-children c.args.t.now c.args.widths.now c.args.r c.requires.0 (For c.args.a c.args.b c.args.c c.args.d) c.requires.3 in (omega (arith, k.1.1), (k.1.0, c.exp_kinds-started.ensures.0.1 ∙ ap length c.copied-inner.ensures ∙ c.requires.1, refl, refl))
+fors-body_kinds-round-requires t c = let k : ExpChildren c.args.t.now c.args.widths.now c.args.r (For c.args.a c.args.b c.args.c c.args.d) = exp-children c.args.t.now c.args.widths.now c.args.r c.requires.0 (For c.args.a c.args.b c.args.c c.args.d) c.requires.3 in (omega (arith, k.1.1), (k.1.0, c.exp_kinds-started.ensures.0.1 ∙ c.requires.1, refl, refl))
 
 pub fors-same_kinds-ok-requires : goal.fors-same_kinds-ok-requires
-fors-same_kinds-ok-requires t c = let f : ExpNeeds c.args.t.now c.args.widths.now c.args.r (For c.args.a c.args.b c.args.c c.args.d) = exp-needs c.args.t.now c.args.widths.now c.args.r c.requires.0 (For c.args.a c.args.b c.args.c c.args.d) c.requires.3 in (omega (arith, f.1, c.exp_kinds-started.ensures.0.1, ap length c.copied-inner.ensures, c.requires.1), omega (arith, c.body_kinds-round.ensures.0.0.2, c.body_kinds-round.ensures.1))
+fors-same_kinds-ok-requires t c = let f : ExpNeeds c.args.t.now c.args.widths.now c.args.r (For c.args.a c.args.b c.args.c c.args.d) = exp-needs c.args.t.now c.args.widths.now c.args.r c.requires.0 (For c.args.a c.args.b c.args.c c.args.d) c.requires.3 in (omega (arith, f.1, c.exp_kinds-started.ensures.0.1, c.requires.1), omega (arith, c.body_kinds-round.ensures.0.0.2, c.body_kinds-round.ensures.1))
 
 pub fors-copy-requires : goal.fors-copy-requires
 fors-copy-requires t c = let m : c.body_kinds-round.result.back ≡ W c.args.widths.now c.args.r = counted_back c.args.t.now c.args.widths.now c.args.r c.requires.0 c.args.a c.args.b c.args.c c.args.d c.requires.3 c.body_kinds-round.new.back c.body_kinds-round.result.back (kinds_in c.exp_kinds-started.new.out) c.body_kinds-round.ensures.0.0.1 in (omega (arith, m, c.requires.2), omega (arith, c.body_kinds-round.ensures.0.0.3, c.body_kinds-round.ensures.2))
@@ -220,7 +223,7 @@ pub fors-shape_of-out : goal.fors-shape_of-out
 fors-shape_of-out t c = c.copy.ensures.1
 
 pub fors-returns : goal.fors-returns
-fors-returns t c = let p : Told c.args.t.now c.args.r (kinds_in c.args.env.now) c.args.at c.args.out.now c.copy.new.to (lesser (own c.args.r c.same_kinds-ok.result) (lesser c.exp_kinds-started.result c.body_kinds-round.result.fault)) = tell-for c.args.t.now c.args.widths.now c.args.r c.requires.0 (kinds_in c.args.env.now) c.args.at c.args.out.now c.copy.new.to c.args.a c.args.b c.args.c c.args.d c.requires.3 c.copied-inner.result c.exp_kinds-started.new.out c.body_kinds-round.new.again c.body_kinds-round.new.back c.body_kinds-round.result.again c.body_kinds-round.result.back c.exp_kinds-started.result c.body_kinds-round.result.fault c.same_kinds-ok.result (ap kinds_in c.copied-inner.ensures) c.exp_kinds-started.ensures c.body_kinds-round.ensures.0.0.0 c.body_kinds-round.ensures.0.0.1 c.body_kinds-round.ensures.0.1 c.same_kinds-ok.ensures c.copy.ensures in (p.0, c.lower-2.ensures ∙ (λ j. lesser (c.own.ensures j) (c.lower.ensures j)) ∙ p.1)
+fors-returns t c = let p : Told c.args.t.now c.args.r (kinds_in c.args.env.now) c.args.at c.args.out.now c.copy.new.to (lesser (own c.args.r c.same_kinds-ok.result) (lesser c.exp_kinds-started.result c.body_kinds-round.result.fault)) = tell-for c.args.t.now c.args.widths.now c.args.r c.requires.0 (kinds_in c.args.env.now) c.args.at c.args.out.now c.copy.new.to c.args.a c.args.b c.args.c c.args.d c.requires.3 c.args.env.now c.exp_kinds-started.new.out c.body_kinds-round.new.again c.body_kinds-round.new.back c.body_kinds-round.result.again c.body_kinds-round.result.back c.exp_kinds-started.result c.body_kinds-round.result.fault c.same_kinds-ok.result refl c.exp_kinds-started.ensures c.body_kinds-round.ensures.0.0.0 c.body_kinds-round.ensures.0.0.1 c.body_kinds-round.ensures.0.1 c.same_kinds-ok.ensures c.copy.ensures in (p.0, c.lower-2.ensures ∙ (λ j. lesser (c.own.ensures j) (c.lower.ensures j)) ∙ p.1)
 
 pub ifs-exp_kinds-tested-requires : goal.ifs-exp_kinds-tested-requires
 ifs-exp_kinds-tested-requires t c = let k : ExpChildren c.args.t.now c.args.widths.now c.args.r (If c.args.a c.args.b c.args.c) = exp-children c.args.t.now c.args.widths.now c.args.r c.requires.0 (If c.args.a c.args.b c.args.c) c.requires.3 in let f : ExpNeeds c.args.t.now c.args.widths.now c.args.r (If c.args.a c.args.b c.args.c) = exp-needs c.args.t.now c.args.widths.now c.args.r c.requires.0 (If c.args.a c.args.b c.args.c) c.requires.3 in (omega (arith, k.0.1), (k.0.0, c.requires.1, omega (arith, f.0)))
@@ -247,4 +250,6 @@ pub ifs-shape_of-out : goal.ifs-shape_of-out
 ifs-shape_of-out t c = c.exp_kinds-first.ensures.0.1
 
 pub ifs-returns : goal.ifs-returns
-ifs-returns t c = let p : Told c.args.t.now c.args.r (kinds_in c.args.env.now) c.args.at c.args.out.now c.exp_kinds-first.new.out (lesser (own c.args.r c.both-ok.result) (lesser c.exp_kinds-tested.result (lesser c.exp_kinds-first.result c.exp_kinds-second.result))) = tell-if c.args.t.now c.args.widths.now c.args.r c.requires.0 (kinds_in c.args.env.now) c.args.at c.args.out.now c.exp_kinds-first.new.out c.args.a c.args.b c.args.c c.requires.3 (0 ∷ []) c.exp_kinds-tested.new.out (replicate 16 0) c.exp_kinds-second.new.out c.exp_kinds-tested.result c.exp_kinds-first.result c.exp_kinds-second.result c.all_kinds.result c.same_kinds-alike.result c.both-ok.result c.exp_kinds-tested.ensures c.exp_kinds-first.ensures c.exp_kinds-second.ensures c.all_kinds.ensures (c.same_kinds-alike.ensures ∙ (λ n. same_kinds (stretch (kinds_in c.exp_kinds-first.new.out) c.args.at (c.width_at.ensures.0 n)) (stretch (kinds_in c.exp_kinds-second.new.out) 0 (c.width_at-2.ensures.0 n)))) c.both-ok.ensures in (p.0, c.lower-3.ensures ∙ (λ j. lesser (c.own.ensures j) ((c.lower-2.ensures ∙ ap (lesser c.exp_kinds-tested.result) c.lower.ensures) j)) ∙ p.1)
+ifs-returns t c =
+    let ok : c.if-all_kinds.ok ≡ (c.all_kinds.result && c.same_kinds-alike.result) = elim c.if-all_kinds.branch [ ifs-then-all_kinds w ↦ rw w.if-all_kinds.true w.ok-is | ifs-else-all_kinds w ↦ rw w.if-all_kinds.false (w.ok-is ∙ w.if-all_kinds.false) ] in
+    let p : Told c.args.t.now c.args.r (kinds_in c.args.env.now) c.args.at c.args.out.now c.exp_kinds-first.new.out (lesser (own c.args.r c.if-all_kinds.ok) (lesser c.exp_kinds-tested.result (lesser c.exp_kinds-first.result c.exp_kinds-second.result))) = tell-if c.args.t.now c.args.widths.now c.args.r c.requires.0 (kinds_in c.args.env.now) c.args.at c.args.out.now c.exp_kinds-first.new.out c.args.a c.args.b c.args.c c.requires.3 (0 ∷ []) c.exp_kinds-tested.new.out (replicate 16 0) c.exp_kinds-second.new.out c.exp_kinds-tested.result c.exp_kinds-first.result c.exp_kinds-second.result c.all_kinds.result c.same_kinds-alike.result c.if-all_kinds.ok c.exp_kinds-tested.ensures c.exp_kinds-first.ensures c.exp_kinds-second.ensures c.all_kinds.ensures (c.same_kinds-alike.ensures ∙ (λ n. same_kinds (stretch (kinds_in c.exp_kinds-first.new.out) c.args.at (c.width_at.ensures.0 n)) (stretch (kinds_in c.exp_kinds-second.new.out) 0 (c.width_at-2.ensures.0 n)))) ok in (p.0, c.lower-3.ensures ∙ (λ j. lesser (c.own.ensures j) ((c.lower-2.ensures ∙ ap (lesser c.exp_kinds-tested.result) c.lower.ensures) j)) ∙ p.1)

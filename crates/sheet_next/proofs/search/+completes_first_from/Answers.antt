@@ -4,7 +4,7 @@ use mathlib.Core.Bool.{Bool}
 use native.Mathlib.Omega.{arith}
 use lib.ListN.{take}
 use borrow.Author.Tests.{not-true, not-false}
-use Rattle.formula.specs.declared.Check.TheVariants.{Passed}
+use Rattle.std.specs.Prelude.{Ok}
 use Rattle.formula.specs.Tests.{lowest, ranges_well, names_well}
 use Rattle.sheet_listed.proofs.SearchLaws.{search-end}
 use Rattle.sheet_stands.specs.Fronts.{rows_to, Front}
@@ -43,8 +43,8 @@ completes-passes-requires t c = (
   part-size c.args.t.now c.args.r c.requires.0 (omega (arith, c.requires.3, c.requires.1, c.requires.2)) ∙ ap (λ (i : ℕ). 5 * i) c.if-r-n.true,
   omega (arith, c.requires.0, c.requires.1),
   c.requires.2,
-  subst (λ (i : ℕ). lowest i (ranges_well (take (5 * c.args.r) c.args.t.now)) ≡ Passed) c.if-r-n.true (front-ranged (take (5 * c.args.r) c.args.t.now) _ _ c.args.r (c.stands.ensures.1 c.if-not-stands.false)),
-  subst (λ (i : ℕ). lowest i (names_well (take (5 * c.args.r) c.args.t.now)) ≡ Passed) c.if-r-n.true (front-names (take (5 * c.args.r) c.args.t.now) _ _ c.args.r (c.stands.ensures.1 c.if-not-stands.false)),
+  subst (λ (i : ℕ). lowest i (ranges_well (take (5 * c.args.r) c.args.t.now)) ≡ Ok tt) c.if-r-n.true (front-ranged (take (5 * c.args.r) c.args.t.now) _ _ c.args.r (c.stands.ensures.1 c.if-not-stands.false)),
+  subst (λ (i : ℕ). lowest i (names_well (take (5 * c.args.r) c.args.t.now)) ≡ Ok tt) c.if-r-n.true (front-names (take (5 * c.args.r) c.args.t.now) _ _ c.args.r (c.stands.ensures.1 c.if-not-stands.false)),
 )
 
 pub completes-returns-then-r-n : goal.completes-returns-then-r-n

@@ -14,6 +14,3 @@ decreases-first_from l = 2 * (l.n - l.r) + 1
 
 abbrev pub invariant-first_from-loop-k : goal.invariant-first_from-loop-k
 invariant-first_from-loop-k l = (l.k ≤ 178) × (length l.t ≡ 25) × Agree (l.r - 1) l.t l.initial.t × Front l.t l.widths l.masks (l.r - 1) × (searched (rows_to (l.r - 1) l.initial.t) l.k (l.n - l.r) ≡ searched (rows_to (l.r - 1) l.initial.t) l.start (l.n - l.r))
-
-abbrev pub decreases-first_from-loop-k : goal.decreases-first_from-loop-k
-decreases-first_from-loop-k l = 178 - l.k

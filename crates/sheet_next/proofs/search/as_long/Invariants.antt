@@ -8,6 +8,3 @@ use Rattle.sheet_next.proofs.search.as_long.Given as goal
 
 abbrev pub invariant-loop-r : goal.invariant-loop-r
 invariant-loop-r l = (l.r ≤ l.n) × (length l.t ≡ 25) × Agree l.r l.t l.initial.t × Front l.t l.widths l.masks l.r × (down_from l.r (rows_to l.n l.initial.t) ≡ down_from l.n (rows_to l.n l.initial.t))
-
-abbrev pub decreases-loop-r : goal.decreases-loop-r
-decreases-loop-r l = l.r

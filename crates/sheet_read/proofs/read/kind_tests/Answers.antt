@@ -4,7 +4,10 @@ use Prim.Native.Nat.{ℕ}
 use Rattle.formula.specs.Tree.{exp_of}
 use Rattle.formula.specs.Faults.{line_well}
 use Rattle.eval_words.specs.Inputs.{inputs_in_lem}
-use Rattle.sheet_read.proofs.ReadLaws.{fault-line, fault-kinds, kinds-pass}
+use Rattle.formula.specs.declared.Refusal.TheVariants.{KindsBroken}
+use Rattle.formula.specs.Tests.{after_check}
+use Rattle.std.specs.Prelude.{Ok}
+use Rattle.sheet_read.proofs.ReadLaws.{fault-line, kinds-end}
 use Rattle.sheet_read.proofs.read.kind_tests.Goals as goal
 
 pub returns-then-not-kinds_line : goal.returns-then-not-kinds_line
@@ -13,8 +16,7 @@ returns-then-not-kinds_line c = fault-line c.args.fields.now c.args.n c.args.lin
 pub test_kinds-requires : goal.test_kinds-requires
 test_kinds-requires c = (c.requires.0, c.requires.1, ap (λ (k : ℕ). line_well k c.args.line.now) (sym (c.inputs_in.ensures.0 ∙ inputs_in_lem (exp_of c.args.fields.now c.args.n) c.args.free c.requires.1)) ∙ sym c.kinds_line.ensures ∙ c.if-not-kinds_line.false)
 
-pub returns-in-Fault : goal.returns-in-Fault
-returns-in-Fault c = fault-kinds c.args.fields.now c.args.n c.args.line.now c.inputs_in.result (c.inputs_in.ensures.0 ∙ inputs_in_lem (exp_of c.args.fields.now c.args.n) c.args.free c.requires.1) (sym c.kinds_line.ensures ∙ c.if-not-kinds_line.false) c.in-Fault.r (sym c.test_kinds.ensures ∙ c.in-Fault.is)
-
-pub returns-in-Passed : goal.returns-in-Passed
-returns-in-Passed c = kinds-pass c.args.fields.now c.args.n c.args.line.now c.inputs_in.result (c.inputs_in.ensures.0 ∙ inputs_in_lem (exp_of c.args.fields.now c.args.n) c.args.free c.requires.1) (sym c.kinds_line.ensures ∙ c.if-not-kinds_line.false) (sym c.test_kinds.ensures ∙ c.in-Passed.is)
+pub returns : goal.returns
+returns c =
+    c.at_row.ensures ∙ ap (λ x. after_check KindsBroken x (Ok tt)) c.test_kinds.ensures
+    ∙ kinds-end c.args.fields.now c.args.n c.args.line.now c.inputs_in.result (c.inputs_in.ensures.0 ∙ inputs_in_lem (exp_of c.args.fields.now c.args.n) c.args.free c.requires.1) (sym c.kinds_line.ensures ∙ c.if-not-kinds_line.false)

@@ -1,10 +1,7 @@
 use mathlib.Core.Path.{◌≡◌}
-use Prim.Native.Nat.{◌+◌, ◌-◌, ◌≤◌}
+use Prim.Native.Nat.{◌+◌, ◌-◌}
 use Rattle.formula.specs.Tests.{lowest_from, lowest, ranges_well}
 use Rattle.sheet_rows.proofs.rows.test_ranges.Given as goal
 
-abbrev pub invariant-loop-i : goal.invariant-loop-i
-invariant-loop-i l = (l.i ≤ l.n) × (lowest_from (l.i + 1) (l.n - l.i) (ranges_well l.fields) ≡ lowest l.n (ranges_well l.fields))
-
-abbrev pub decreases-loop-i : goal.decreases-loop-i
-decreases-loop-i l = l.n - l.i
+abbrev pub invariant-loop-r : goal.invariant-loop-r
+invariant-loop-r l = lowest_from l.r (l.n + 1 - l.r) (ranges_well l.fields) ≡ lowest l.n (ranges_well l.fields)

@@ -1,8 +1,8 @@
 use native.Mathlib.Omega.{arith}
 use mathlib.Core.Path.{sym, ap, ◌∙◌}
 use mathlib.Core.Bool.{true, false}
-use Rattle.formula.specs.declared.Check.{Check}
-use Rattle.formula.specs.declared.Check.TheVariants.{Fault}
+use Rattle.formula.specs.Results.{Check}
+use Rattle.std.specs.Prelude.{Err}
 use Rattle.formula.specs.declared.Shape.TheVariants.{Identifier, Pair, Operator, Let, If, For, Iter}
 use Rattle.sheet_kinds.specs.Bytes.{kinds_in}
 use Rattle.sheet_kinds.specs.Checks.{lesser}
@@ -76,10 +76,10 @@ pub returns-in-Let : goal.returns-in-Let
 returns-in-Let t c = λ b h. c.lower-in-Let.ensures ∙ tell-let c.args.t.now c.args.widths.now (kinds_in c.args.env.now) c.args.r c.in-Let.a c.in-Let.field-1 c.in-Let.c c.in-Let.d (sym c.shape_at.ensures ∙ c.in-Let.is) (kinds_in c.bound.result) c.bound.ensures c.other_sort-value.result c.other_sort-rest.result c.other_sort-value.ensures c.other_sort-rest.ensures b h
 
 pub returns-in-If : goal.returns-in-If
-returns-in-If t c = λ b h. c.lower-in-If-3.ensures ∙ ap (lesser (Fault c.args.r)) (c.lower-in-If-2.ensures ∙ ap (lesser c.other_sort-test.result) c.lower-in-If.ensures) ∙ tell-if c.args.t.now c.args.widths.now (kinds_in c.args.env.now) c.args.r c.in-If.a c.in-If.b c.in-If.c (sym c.shape_at.ensures ∙ c.in-If.is) c.other_sort-test.result c.other_sort-first-in-If.result c.other_sort-second-in-If.result c.other_sort-test.ensures c.other_sort-first-in-If.ensures c.other_sort-second-in-If.ensures b h
+returns-in-If t c = λ b h. c.lower-in-If-3.ensures ∙ ap (lesser (Err c.args.r)) (c.lower-in-If-2.ensures ∙ ap (lesser c.other_sort-test.result) c.lower-in-If.ensures) ∙ tell-if c.args.t.now c.args.widths.now (kinds_in c.args.env.now) c.args.r c.in-If.a c.in-If.b c.in-If.c (sym c.shape_at.ensures ∙ c.in-If.is) c.other_sort-test.result c.other_sort-first-in-If.result c.other_sort-second-in-If.result c.other_sort-test.ensures c.other_sort-first-in-If.ensures c.other_sort-second-in-If.ensures b h
 
 pub returns-in-For : goal.returns-in-For
-returns-in-For t c = λ b h. c.lower-in-For-2.ensures ∙ ap (lesser (Fault c.args.r)) c.lower-in-For.ensures ∙ tell-for c.args.t.now c.args.widths.now (kinds_in c.args.env.now) c.args.r c.in-For.a c.in-For.field-1 c.in-For.c c.in-For.d (sym c.shape_at.ensures ∙ c.in-For.is) (kinds_in c.bound-in-For.result) c.bound-in-For.ensures c.other_sort-start.result c.other_sort-round.result c.other_sort-start.ensures c.other_sort-round.ensures b h
+returns-in-For t c = λ b h. c.lower-in-For-2.ensures ∙ ap (lesser (Err c.args.r)) c.lower-in-For.ensures ∙ tell-for c.args.t.now c.args.widths.now (kinds_in c.args.env.now) c.args.r c.in-For.a c.in-For.field-1 c.in-For.c c.in-For.d (sym c.shape_at.ensures ∙ c.in-For.is) (kinds_in c.bound-in-For.result) c.bound-in-For.ensures c.other_sort-start.result c.other_sort-round.result c.other_sort-start.ensures c.other_sort-round.ensures b h
 
 pub returns-in-Iter : goal.returns-in-Iter
 returns-in-Iter t c = λ b h. c.lower-in-Iter.ensures ∙ tell-iter c.args.t.now c.args.widths.now (kinds_in c.args.env.now) c.args.r c.in-Iter.a (sym c.shape_at.ensures ∙ c.in-Iter.is) c.other_sort.result c.other_sort.ensures b h

@@ -8,6 +8,3 @@ use Rattle.sheet_stands.proofs.contents.number_of.Given as goal
 
 abbrev pub invariant-loop-k : goal.invariant-loop-k
 invariant-loop-k l = (l.k ≤ 178) × (place_of (field_row l.t l.r) ≡ l.k + place_in (drop l.k small_rows) (field_row l.t l.r))
-
-abbrev pub decreases-loop-k : goal.decreases-loop-k
-decreases-loop-k l = 178 - l.k

@@ -25,30 +25,30 @@ row_tests-requires c = λ h. omega (arith, c.requires)
 pub slice_bounds-modest_rows-end : goal.slice_bounds-modest_rows-end
 slice_bounds-modest_rows-end c = omega (arith, c.row_tests.auto.fields, c.requires)
 
-pub slice_bounds-modest_rows-end-in-Passed : goal.slice_bounds-modest_rows-end-in-Passed
-slice_bounds-modest_rows-end-in-Passed c = sym (table-size c.args.sheet.now (sym c.row_tests.ensures.0 ∙ c.in-Passed.is) _ (c.row_tests.ensures.1 c.in-Passed.is))
+pub slice_bounds-modest_rows-end-in-Ok : goal.slice_bounds-modest_rows-end-in-Ok
+slice_bounds-modest_rows-end-in-Ok c = sym (table-size c.args.sheet.now (sym c.row_tests.ensures.0 ∙ c.in-Ok.is) _ (c.row_tests.ensures.1 c.in-Ok.is))
 
 pub modest_rows-requires : goal.modest_rows-requires
-modest_rows-requires c = omega (arith, table-size c.args.sheet.now (sym c.row_tests.ensures.0 ∙ c.in-Passed.is) _ (c.row_tests.ensures.1 c.in-Passed.is))
+modest_rows-requires c = omega (arith, table-size c.args.sheet.now (sym c.row_tests.ensures.0 ∙ c.in-Ok.is) _ (c.row_tests.ensures.1 c.in-Ok.is))
 
 pub returns-then-not-modest_rows : goal.returns-then-not-modest_rows
 returns-then-not-modest_rows c =
-    let no = not-modest c.args.sheet.now (sym (c.modest_rows.ensures ∙ ap (λ (t : List ℕ). is-passed (lowest (row_count c.args.sheet.now) (modest_row t))) (c.row_tests.ensures.1 c.in-Passed.is)) ∙ c.if-not-modest_rows.true) in
-    (rw (ne_eqb (length c.args.sheet.now) 0 c.if-sheet-eq0.false, no) refl, λ h. (c.row_tests.ensures.1 c.in-Passed.is))
+    let no = not-modest c.args.sheet.now (sym (c.modest_rows.ensures ∙ ap (λ (t : List ℕ). is-passed (lowest (row_count c.args.sheet.now) (modest_row t))) (c.row_tests.ensures.1 c.in-Ok.is)) ∙ c.if-not-modest_rows.true) in
+    (rw (ne_eqb (length c.args.sheet.now) 0 c.if-sheet-eq0.false, no) refl, λ h. (c.row_tests.ensures.1 c.in-Ok.is))
 
 pub slice_bounds-passes-end : goal.slice_bounds-passes-end
 slice_bounds-passes-end c = omega (arith, c.row_tests.auto.fields, c.requires)
 
-pub slice_bounds-passes-end-in-Passed : goal.slice_bounds-passes-end-in-Passed
-slice_bounds-passes-end-in-Passed c = sym (table-size c.args.sheet.now (sym c.row_tests.ensures.0 ∙ c.in-Passed.is) _ (c.row_tests.ensures.1 c.in-Passed.is))
+pub slice_bounds-passes-end-in-Ok : goal.slice_bounds-passes-end-in-Ok
+slice_bounds-passes-end-in-Ok c = sym (table-size c.args.sheet.now (sym c.row_tests.ensures.0 ∙ c.in-Ok.is) _ (c.row_tests.ensures.1 c.in-Ok.is))
 
 pub passes-requires : goal.passes-requires
-passes-requires c = (table-size c.args.sheet.now (sym c.row_tests.ensures.0 ∙ c.in-Passed.is) _ (c.row_tests.ensures.1 c.in-Passed.is), (passes-rowwise c.args.sheet.now (sym c.row_tests.ensures.0 ∙ c.in-Passed.is)).some, omega arith, rows-ranged c.args.sheet.now (sym c.row_tests.ensures.0 ∙ c.in-Passed.is) _ (c.row_tests.ensures.1 c.in-Passed.is), rows_named c.args.sheet.now (sym c.row_tests.ensures.0 ∙ c.in-Passed.is) _ (c.row_tests.ensures.1 c.in-Passed.is))
+passes-requires c = (table-size c.args.sheet.now (sym c.row_tests.ensures.0 ∙ c.in-Ok.is) _ (c.row_tests.ensures.1 c.in-Ok.is), (passes-rowwise c.args.sheet.now (sym c.row_tests.ensures.0 ∙ c.in-Ok.is)).some, omega arith, rows-ranged c.args.sheet.now (sym c.row_tests.ensures.0 ∙ c.in-Ok.is) _ (c.row_tests.ensures.1 c.in-Ok.is), rows_named c.args.sheet.now (sym c.row_tests.ensures.0 ∙ c.in-Ok.is) _ (c.row_tests.ensures.1 c.in-Ok.is))
 
-pub returns-in-Refused : goal.returns-in-Refused
-returns-in-Refused c = let no = refused-not-small c.args.sheet.now c.in-Refused.field-0 c.in-Refused.field-1 (sym c.row_tests.ensures.0 ∙ c.in-Refused.is) in (rw (ne_eqb (length c.args.sheet.now) 0 c.if-sheet-eq0.false, no) refl, λ h. absurd (false≢true (sym no ∙ h)))
+pub returns-in-Err : goal.returns-in-Err
+returns-in-Err c = let no = refused-not-small c.args.sheet.now c.in-Err.field-0.refusal c.in-Err.field-0.row (sym c.row_tests.ensures.0 ∙ c.in-Err.is) in (rw (ne_eqb (length c.args.sheet.now) 0 c.if-sheet-eq0.false, no) refl, λ h. absurd (false≢true (sym no ∙ h)))
 
 pub returns-else-not-modest_rows : goal.returns-else-not-modest_rows
 returns-else-not-modest_rows c =
-    let modest = sym (c.modest_rows.ensures ∙ ap (λ (t : List ℕ). is-passed (lowest (row_count c.args.sheet.now) (modest_row t))) (c.row_tests.ensures.1 c.in-Passed.is)) ∙ c.if-not-modest_rows.false in
-    (rw (ne_eqb (length c.args.sheet.now) 0 c.if-sheet-eq0.false) (c.passes.ensures ∙ ap (λ (t : List ℕ). formula_passes t (row_count c.args.sheet.now)) (c.row_tests.ensures.1 c.in-Passed.is) ∙ sym (small-decides c.args.sheet.now (sym c.row_tests.ensures.0 ∙ c.in-Passed.is) (omega arith) modest)), λ h. (c.row_tests.ensures.1 c.in-Passed.is))
+    let modest = sym (c.modest_rows.ensures ∙ ap (λ (t : List ℕ). is-passed (lowest (row_count c.args.sheet.now) (modest_row t))) (c.row_tests.ensures.1 c.in-Ok.is)) ∙ c.if-not-modest_rows.false in
+    (rw (ne_eqb (length c.args.sheet.now) 0 c.if-sheet-eq0.false) (c.passes.ensures ∙ ap (λ (t : List ℕ). formula_passes t (row_count c.args.sheet.now)) (c.row_tests.ensures.1 c.in-Ok.is) ∙ sym (small-decides c.args.sheet.now (sym c.row_tests.ensures.0 ∙ c.in-Ok.is) (omega arith) modest)), λ h. (c.row_tests.ensures.1 c.in-Ok.is))

@@ -6,6 +6,3 @@ use Rattle.sheet_stands.proofs.tests.modest_rows.Given as goal
 
 abbrev pub invariant-loop-i : goal.invariant-loop-i
 invariant-loop-i l = (l.i ≤ l.n) × (lowest_from (l.i + 1) (l.n - l.i) (modest_row l.t) ≡ lowest l.n (modest_row l.t))
-
-abbrev pub decreases-loop-i : goal.decreases-loop-i
-decreases-loop-i l = l.n - l.i

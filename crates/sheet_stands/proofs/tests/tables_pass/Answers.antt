@@ -13,8 +13,8 @@ slice_bounds-test_widths-end-2 c = part_length c.args.n 5 c.requires.1 (replicat
 pub test_widths-requires : goal.test_widths-requires
 test_widths-requires c = (c.requires.0, sym (part_length c.args.n 5 c.requires.1 (replicate 5 0) refl), sym (part_length c.args.n 5 c.requires.1 (replicate 5 0) refl))
 
-pub returns-then-not-passed : goal.returns-then-not-passed
-returns-then-not-passed c = rw (tables-by c.args.t.now c.args.n c.args.places.now, sym c.test_widths.ensures.0, sym c.passed.ensures, c.if-not-passed.true) refl
+pub returns-then-not-is_ok : goal.returns-then-not-is_ok
+returns-then-not-is_ok c = rw (tables-by c.args.t.now c.args.n c.args.places.now, sym c.test_widths.ensures.0, sym c.is_ok.ensures.value, c.if-not-is_ok.true) refl
 
 pub slice_bounds-test_bound-end : goal.slice_bounds-test_bound-end
 slice_bounds-test_bound-end c = part_length c.args.n 5 c.requires.1 (replicate 5 0) refl
@@ -23,4 +23,4 @@ pub test_bound-requires : goal.test_bound-requires
 test_bound-requires c = (c.requires.0, sym (part_length c.args.n 5 c.requires.1 (replicate 5 0) refl))
 
 pub returns : goal.returns
-returns c = rw (tables-by c.args.t.now c.args.n c.args.places.now, sym c.test_widths.ensures.0, sym c.passed.ensures, c.if-not-passed.false, sym c.test_bound.ensures.0) c.passed-2.ensures
+returns c = rw (tables-by c.args.t.now c.args.n c.args.places.now, sym c.test_widths.ensures.0, sym c.is_ok.ensures.value, c.if-not-is_ok.false, sym c.test_bound.ensures.0) c.is_ok-2.ensures.value

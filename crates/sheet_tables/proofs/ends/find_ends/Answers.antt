@@ -1,6 +1,6 @@
 use mathlib.Core.Path.{sym, ◌∙◌, subst, ◌≡◌}
 use native.Mathlib.Omega.{arith}
-use Prim.Native.Nat.{◌+◌, ◌-◌}
+use Prim.Native.Nat.{◌+◌}
 use lib.ListN.{take, length-set}
 use lib.Seq.{length-take-le}
 use Rattle.formula.specs.Sheet.{named_in}

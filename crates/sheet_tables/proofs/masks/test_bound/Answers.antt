@@ -1,7 +1,6 @@
 use mathlib.Core.Path.{sym, ◌∙◌, subst, ◌≡◌}
-use mathlib.Core.Bool.{true, false}
 use native.Mathlib.Omega.{arith}
-use Prim.Native.Nat.{ℕ, ◌-◌}
+use Prim.Native.Nat.{ℕ}
 use lib.ListN.{take, length-set}
 use lib.Seq.{length-take-le}
 use Rattle.names.specs.Names.{mask}

@@ -8,6 +8,3 @@ use Rattle.sheet_tables.proofs.masks.test_bound.Given as goal
 
 abbrev pub invariant-loop-i : goal.invariant-loop-i
 invariant-loop-i l = (l.i ≤ l.n) × (lowest_from (l.i + 1) (l.n - l.i) (bound_well l.fields l.places) ≡ lowest l.n (bound_well l.fields l.places)) × (Holds 0 l.masks l.i (λ k. mask (free_in (node_at l.fields l.places k)))) × (length l.masks ≡ l.n)
-
-abbrev pub decreases-loop-i : goal.decreases-loop-i
-decreases-loop-i l = l.n - l.i

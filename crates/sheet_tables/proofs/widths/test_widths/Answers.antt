@@ -1,11 +1,9 @@
-use borrow.Author.Rules.{rules}
 use mathlib.Core.Path.{sym, ◌∙◌, subst, ◌≡◌}
-use mathlib.Core.Bool.{true, false}
 use native.Mathlib.Omega.{arith}
-use Prim.Native.Nat.{ℕ, ◌+◌, ◌-◌, ◌<◌, ◌^◌}
+use Prim.Native.Nat.{ℕ, ◌+◌, ◌<◌, ◌^◌}
 use lib.ListN.{take, length-set}
 use lib.Seq.{length-take-le}
-use Rattle.formula.specs.Sheet.{named_in, shape_at}
+use Rattle.formula.specs.Sheet.{named_in}
 use Rattle.formula.specs.Tests.{widths_well}
 use Rattle.formula.proofs.TestLaws.{starts, goes_on, stops, ends}
 use Rattle.formula.specs.TreeLaws.{AllBetween}

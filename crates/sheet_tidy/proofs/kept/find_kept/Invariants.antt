@@ -6,6 +6,3 @@ use Rattle.sheet_tidy.proofs.kept.find_kept.Given as goal
 
 abbrev pub invariant-loop-r : goal.invariant-loop-r
 invariant-loop-r l = (l.r ≤ l.n) × (keep_down l.fields l.r l.kept ≡ kept_of l.fields l.n) × (length l.kept ≡ l.n)
-
-abbrev pub decreases-loop-r : goal.decreases-loop-r
-decreases-loop-r l = l.r

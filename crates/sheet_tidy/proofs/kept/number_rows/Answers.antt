@@ -8,7 +8,7 @@ use Rattle.sheet_tidied.specs.Tidy.{new_number}
 use Rattle.sheet_tidy.proofs.KeptLaws.{number-kept, number-left}
 use Rattle.sheet_tidied.proofs.NumberLaws.{number-most}
 use Rattle.sheet_tidy.proofs.kept.number_rows.Goals as goal
-use Rattle.sheet_tidy.proofs.kept.number_rows.Goals.{then-kept-i, else-kept-i}
+use Rattle.sheet_tidy.proofs.kept.number_rows.Goals.{then-stays, else-stays}
 
 pub loop-i-init : goal.loop-i-init
 unfolding new_number
@@ -19,12 +19,12 @@ overflow_add-count c = let l = number-most c.args.kept.now c.loop-i.i in omega (
 
 pub loop-i-preserved : goal.loop-i-preserved
 loop-i-preserved c =
-    let next : c.if-kept-i.count ≡ new_number c.args.kept.now (c.loop-i.i + 1) =
-    elim c.if-kept-i.branch [
-      | then-kept-i w ↦ w.count-is ∙ ap (λ (x : ℕ). x + 1) c.loop-i.invariant.1 ∙ sym (number-kept c.args.kept.now c.loop-i.i w.if-kept-i.true)
-      | else-kept-i w ↦ w.count-is ∙ c.loop-i.invariant.1 ∙ sym (number-left c.args.kept.now c.loop-i.i w.if-kept-i.false)
+    let next : c.if-stays.count ≡ new_number c.args.kept.now (c.loop-i.i + 1) =
+    elim c.if-stays.branch [
+      | then-stays w ↦ w.count-is ∙ ap (λ (x : ℕ). x + 1) c.loop-i.invariant.1 ∙ sym (number-kept c.args.kept.now c.loop-i.i w.if-stays.true)
+      | else-stays w ↦ w.count-is ∙ c.loop-i.invariant.1 ∙ sym (number-left c.args.kept.now c.loop-i.i w.if-stays.false)
     ] in
-    (omega arith, next, holds_more 0 c.loop-i.numbers c.loop-i.i (new_number c.args.kept.now) c.if-kept-i.count c.loop-i.invariant.2 (omega arith) next, length-set c.loop-i.numbers c.loop-i.i c.if-kept-i.count ∙ c.loop-i.invariant.3)
+    (omega arith, next, holds_more 0 c.loop-i.numbers c.loop-i.i (new_number c.args.kept.now) c.if-stays.count c.loop-i.invariant.2 (omega arith) next, length-set c.loop-i.numbers c.loop-i.i c.if-stays.count ∙ c.loop-i.invariant.3)
 
 pub returns : goal.returns
 returns c =

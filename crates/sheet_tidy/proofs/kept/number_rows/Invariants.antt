@@ -7,6 +7,3 @@ use Rattle.sheet_tidy.proofs.kept.number_rows.Given as goal
 
 abbrev pub invariant-loop-i : goal.invariant-loop-i
 invariant-loop-i l = (l.i ≤ length l.kept) × (l.count ≡ new_number l.kept l.i) × (Holds 0 l.numbers l.i (new_number l.kept)) × (length l.numbers ≡ length l.kept)
-
-abbrev pub decreases-loop-i : goal.decreases-loop-i
-decreases-loop-i l = length l.kept - l.i

@@ -1,7 +1,7 @@
 use mathlib.Core.Path.{sym, ap, ◌∙◌}
 use Rattle.value.specs.Bytes.{decoded}
 use Rattle.value.proofs.Floats.{no_nan}
-use Rattle.value.proofs.Words.{pattern-some, pattern-none}
+use Rattle.value.proofs.Words.{pattern-some}
 use Rattle.value.proofs.bytes.from_real.Goals as goal
 
 pub overflow_cast-result : goal.overflow_cast-result
@@ -12,6 +12,3 @@ float_from_bits-result c = rw (no_nan c.args.bits (pattern-some c.args.bits (sym
 
 pub returns-then-is_pattern : goal.returns-then-is_pattern
 returns-then-is_pattern c = ap decoded (sym (pattern-some c.args.bits (sym c.is_pattern.ensures ∙ c.if-is_pattern.true)).2)
-
-pub returns : goal.returns
-returns c = ap decoded (sym (pattern-none c.args.bits (sym c.is_pattern.ensures ∙ c.if-is_pattern.false)))

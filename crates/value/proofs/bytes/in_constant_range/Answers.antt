@@ -1,3 +1,4 @@
+use native.Mathlib.Omega.{arith}
 use Rattle.value.proofs.ConstantWords.{whole-constant, truth-constant, float-constant, no-constant}
 use Rattle.value.proofs.bytes.in_constant_range.Goals as goal
 
@@ -11,4 +12,4 @@ pub returns-in-4 : goal.returns-in-4
 returns-in-4 c = float-constant c.args.w c.in-4.is
 
 pub returns-in_default : goal.returns-in_default
-returns-in_default c = no-constant c.args.w c.in_default.in_default-own.rest.0.0.1 c.in_default.in_default-own.rest.0.1 c.in_default.in_default-own.rest.1
+returns-in_default c = no-constant c.args.w (λ e. omega arith) (λ e. omega arith) (λ e. omega arith)

@@ -1,3 +1,4 @@
+use native.Mathlib.Omega.{arith}
 use mathlib.Core.Path.{sym, ap, ◌∙◌}
 use Rattle.value.specs.Bytes.{is_some}
 use Rattle.value.specs.Kinds.{of_kind}
@@ -17,4 +18,4 @@ pub returns-in-4 : goal.returns-in-4
 returns-in-4 c = c.real_in.ensures ∙ ap (λ o. is_some (of_kind c.args.letter o)) (sym (tag-four c.args.w c.in-4.is))
 
 pub returns-in_default : goal.returns-in_default
-returns-in_default c = tag-of-kind c.args.w c.args.letter c.in_default.in_default-own.rest.0.0.0.1 c.in_default.in_default-own.rest.0.0.1 c.in_default.in_default-own.rest.0.1 c.in_default.in_default-own.rest.1
+returns-in_default c = tag-of-kind c.args.w c.args.letter (λ e. omega arith) (λ e. omega arith) (λ e. omega arith) (λ e. omega arith)

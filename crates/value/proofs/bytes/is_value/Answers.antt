@@ -1,3 +1,4 @@
+use native.Mathlib.Omega.{arith}
 use mathlib.Core.Path.{◌∙◌}
 use Rattle.value.proofs.Words.{whole-valid, truth-valid, err-valid, float-valid, tag-valid}
 use Rattle.value.proofs.bytes.is_value.Goals as goal
@@ -15,4 +16,4 @@ pub returns-in-4 : goal.returns-in-4
 returns-in-4 c = c.is_pattern.ensures ∙ float-valid c.args.w c.in-4.is
 
 pub returns-in_default : goal.returns-in_default
-returns-in_default c = tag-valid c.args.w c.in_default.in_default-own.rest.0.0.0.1 c.in_default.in_default-own.rest.0.0.1 c.in_default.in_default-own.rest.0.1 c.in_default.in_default-own.rest.1
+returns-in_default c = tag-valid c.args.w (λ e. omega arith) (λ e. omega arith) (λ e. omega arith) (λ e. omega arith)

@@ -1,0 +1,111 @@
+#![tactic(auto)]
+// What the programs over stored cases share. Case k, from 1 on, has its files in folder k of the working directory, whose name has three
+// digits; its answers are printed as lines.
+ghost use Rattle.std.specs.Prelude.{◌≡◌, ◌*◌, ◌-◌, ◌≤◌, min, length, IfOk};
+ghost use Rattle.files.specs.Counts.{IsPrefixLen};
+ghost use Rattle.text.specs.Printed.{head_line as headLine};
+ghost use Rattle.case_files.specs.Paths.{case_path};
+
+use arrayvec::ArrayString;
+use files::{LONG, open_read, read_full};
+use std::fmt::{self, Write};
+use std::rt::Files;
+use text::{HEAD_LINE, RESULT_BYTES, RESULT_LINE, VALUE_FIELD};
+use text_print::{put_head, put_results};
+use text_read::sets::read_set;
+
+pub const MOST_CASES: u32 = 999;
+
+// More than any kinds line has: 32 letters and a line feed.
+pub const KINDS_LINE: usize = 64;
+
+const MOST_INPUTS: usize = 32;
+
+// The width of the widest result set.
+const MOST_WIDTH: usize = 16;
+
+// A folder's name, a slash and the longest name, formula.txt.
+const PATH: usize = 15;
+
+// The path of the file of case k that has this name.
+fn path(k: u32, name: &str) -> Result<ArrayString<PATH>, fmt::Error>
+    requires { k ≤ 999 }
+    ensures { IfOk result (λ p. p.bytes ≡ case_path k name.now) }
+{
+    let mut path = ArrayString::new();
+    write!(path, "{k:03}/{name}")?;
+    Ok(path)
+}
+
+// Opens the file of case k that has this name, none where it is missing.
+pub fn open_case<R: Files>(files: &R, k: u32, name: &str) -> Option<R::File>
+    requires { k ≤ 999 }
+{
+    let path = path(k, name).ok()?;
+    open_read(files, path.as_bytes())
+}
+
+// Reads as much of that file as fits, nothing where it is missing.
+pub fn load_case<R: Files>(files: &R, k: u32, name: &str, buf: &mut [u8]) -> usize
+    requires { k ≤ 999 }
+    ensures { IsPrefixLen result buf.new }
+{
+    match open_case(files, k, name) {
+        Some(mut file) => read_full(&mut file, buf),
+        None => 0,
+    }
+}
+
+// How many letters a kinds line has, as far as there can be inputs.
+pub fn letters_of(kinds: &[u8]) -> usize
+    ensures in_bounds { IsPrefixLen result kinds.now × (result ≤ 32) }
+    ensures value { result ≡ min (length kinds.now - 1) 32 }
+{
+    kinds.len().saturating_sub(1).min(MOST_INPUTS)
+}
+
+// The sets of a file's lines up to the first line that is none, each `step` bytes behind the one before; gives the bytes up to
+// where the next would be.
+fn read_sets(lines: &[u8], kinds: &[u8], step: usize, sets: &mut [u8]) -> usize
+    requires { (length kinds.now ≤ 32) × (5 * length kinds.now ≤ step) }
+    ensures { IsPrefixLen result sets.new }
+{
+    let mut end = 0;
+    for line in lines.chunks(VALUE_FIELD * kinds.len() + 1) {
+        if sets.len() - end < step || !read_set(line, 0, kinds, &mut sets[end..]) {
+            break;
+        }
+        end += step;
+    }
+    end
+}
+
+// The sets of case k for inputs of these kinds.
+pub fn load_sets<R: Files>(files: &R, k: u32, kinds: &[u8], step: usize, sets: &mut [u8]) -> usize
+    requires { (k ≤ 999) × (length kinds.now ≤ 32) × (5 * length kinds.now ≤ step) }
+    ensures { IsPrefixLen result sets.new }
+{
+    let mut lines = [0u8; LONG];
+    let n = load_case(files, k, "sets.txt", &mut lines);
+    read_sets(&lines[..n], kinds, step, sets)
+}
+
+// Three numbers as a line.
+pub fn head_line(a: u32, b: u32, c: u32) -> [u8; HEAD_LINE]
+    ensures { result ≡ headLine a b c }
+{
+    let mut out = [0u8; HEAD_LINE];
+    put_head(&mut out, a, b, c);
+    out
+}
+
+// Writes the values of a result set as a line, where it has so many.
+pub fn write_result(rt: &impl Print, results: &[u8], width: u32) {
+    let values = width as usize;
+    if MOST_WIDTH < values || results.len() < RESULT_BYTES {
+        return;
+    }
+    let mut text = [0u8; RESULT_LINE];
+    put_results(&mut text, 0, values, results);
+    let _ = rt.write_all(&text[..VALUE_FIELD * values + 1]);
+}

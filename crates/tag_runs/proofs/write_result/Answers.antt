@@ -1,8 +1,0 @@
-use native.Mathlib.Omega.{arith}
-use Prim.Native.Nat.{◌+◌, ◌*◌}
-use mathlib.Core.Path.{sym}
-use lib.Seq.{length-take-le}
-use Rattle.tag_runs.proofs.write_result.Goals as goal
-
-pub slice_bounds-write_all-end : goal.slice_bounds-write_all-end
-slice_bounds-write_all-end g c = sym (length-take-le (11 * c.args.width + 1) c.put_results.new.out (omega (arith, c.put_results.auto.out, c.if-width-gt-MOST_WIDTH.false)))
