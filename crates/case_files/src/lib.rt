@@ -1,10 +1,11 @@
 #![tactic(auto)]
 // What the programs over stored cases share. Case k, from 1 on, has its files in folder k of the working directory, whose name has three
 // digits; its answers are printed as lines.
-ghost use Rattle.std.specs.Prelude.{◌≡◌, ◌*◌, ◌-◌, ◌≤◌, min, length, IfOk};
+ghost use Rattle.std.specs.Prelude.{◌≡◌, ◌*◌, ◌-◌, ◌≤◌, min, length, take, IfOk, IfSome};
 ghost use Rattle.files.specs.Counts.{IsPrefixLen};
 ghost use Rattle.text.specs.Printed.{head_line as headLine};
 ghost use Rattle.case_files.specs.Paths.{case_path};
+ghost use Rattle.case_files.specs.Results.{shown_result};
 
 use arrayvec::ArrayString;
 use files::{LONG, open_read, read_full};
@@ -37,21 +38,23 @@ fn path(k: u32, name: &str) -> Result<ArrayString<PATH>, fmt::Error>
     Ok(path)
 }
 
-// Opens the file of case k that has this name, none where it is missing.
-pub fn open_case<R: Files>(files: &R, k: u32, name: &str) -> Option<R::File>
+// Reads as much of the file of case k that has this name as fits, none where it is missing.
+pub fn read_case<R: Files>(files: &R, k: u32, name: &str, buf: &mut [u8]) -> Option<usize>
     requires { k ≤ 999 }
+    ensures { IfSome result (λ n. IsPrefixLen n buf.new) }
 {
     let path = path(k, name).ok()?;
-    open_read(files, path.as_bytes())
+    let mut file = open_read(files, path.as_bytes())?;
+    Some(read_full(&mut file, buf))
 }
 
-// Reads as much of that file as fits, nothing where it is missing.
+// The same, nothing where it is missing.
 pub fn load_case<R: Files>(files: &R, k: u32, name: &str, buf: &mut [u8]) -> usize
     requires { k ≤ 999 }
     ensures { IsPrefixLen result buf.new }
 {
-    match open_case(files, k, name) {
-        Some(mut file) => read_full(&mut file, buf),
+    match read_case(files, k, name, buf) {
+        Some(n) => n,
         None => 0,
     }
 }
@@ -99,13 +102,15 @@ pub fn head_line(a: u32, b: u32, c: u32) -> [u8; HEAD_LINE]
     out
 }
 
-// Writes the values of a result set as a line, where it has so many.
-pub fn write_result(rt: &impl Print, results: &[u8], width: u32) {
+// A result set as a line at the front of `text`, and the line's bytes: none where the width is none or not all of the set is there.
+pub fn result_line(text: &mut [u8; RESULT_LINE], results: &[u8], width: u32) -> usize
+    ensures shown { take result text.new ≡ shown_result width results.now }
+    ensures in_bounds { IsPrefixLen result text.new }
+{
     let values = width as usize;
     if MOST_WIDTH < values || results.len() < RESULT_BYTES {
-        return;
+        return 0;
     }
-    let mut text = [0u8; RESULT_LINE];
-    put_results(&mut text, 0, values, results);
-    let _ = rt.write_all(&text[..VALUE_FIELD * values + 1]);
+    put_results(text, 0, values, results);
+    VALUE_FIELD * values + 1
 }

@@ -7,12 +7,12 @@
 ghost use Rattle.std.specs.Prelude.{◌≡◌, ◌≤◌};
 ghost use Rattle.log_runs.specs.Lines.{line_of};
 
-use case_files::{KINDS_LINE, MOST_CASES, letters_of, load_case, load_sets, write_result};
+use case_files::{KINDS_LINE, MOST_CASES, letters_of, load_case, load_sets, result_line};
 use files::{LONG, SHORT};
 use machine_log::{LogAnswer, check_log};
 use sheet_fields::field::field_in;
 use std::rt::Files;
-use text::{NUMBER_FIELD, RESULT_BYTES, VALUE_BYTES};
+use text::{NUMBER_FIELD, RESULT_BYTES, RESULT_LINE, VALUE_BYTES};
 use text_print::{put_number, put_refusal};
 
 const ANSWER_LINE: usize = 25;
@@ -47,7 +47,9 @@ fn line(a: LogAnswer) -> [u8; ANSWER_LINE]
 // Writes a line for each result that was handed out.
 fn write_results(rt: &impl Print, results: &[u8], count: u32, width: u32) {
     for result in results.chunks_exact(RESULT_BYTES).take(count as usize) {
-        write_result(rt, result, width);
+        let mut text = [0u8; RESULT_LINE];
+        let n = result_line(&mut text, result, width);
+        let _ = rt.write_all(&text[..n]);
     }
 }
 

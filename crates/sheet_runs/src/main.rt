@@ -8,8 +8,8 @@ ghost use Rattle.formula.specs.Tests.{reading_of};
 ghost use Rattle.sheet_read.specs.Reading.{answer_of};
 ghost use Rattle.sheet_runs.specs.Lines.{line_of};
 
-use case_files::{KINDS_LINE, MOST_CASES, open_case};
-use files::{LONG, read_full};
+use case_files::{KINDS_LINE, MOST_CASES, read_case};
+use files::LONG;
 use sheet_read::read::{ReadAnswer, bench_read};
 use std::rt::Files;
 use text::NUMBER_FIELD;
@@ -41,12 +41,10 @@ fn told(sheet: &[u8], kinds: &[u8]) -> [u8; LINE]
 fn show<R: Files + Print>(rt: &R, k: u32) -> Option<()>
     requires { k ≤ 999 }
 {
-    let mut file = open_case(rt, k, "formula.txt")?;
     let mut sheet = [0u8; LONG];
-    let n = read_full(&mut file, &mut sheet);
-    let mut file = open_case(rt, k, "kinds.txt")?;
+    let n = read_case(rt, k, "formula.txt", &mut sheet)?;
     let mut kinds = [0u8; KINDS_LINE];
-    let m = read_full(&mut file, &mut kinds);
+    let m = read_case(rt, k, "kinds.txt", &mut kinds)?;
     rt.write_all(&told(&sheet[..n], &kinds[..m])).ok()
 }
 

@@ -5,22 +5,19 @@
 // run, 4 and a tag for take. Written are a line for start, 0, refusal and row, and, where it is accepted, a line for each call, its first
 // field, refusal and count, in six-character fields, with the result behind an accepted take. A set that there is not has no bytes. The cases
 // in data/ and the answers in stdout are those of the separately written machine (compare/, tag_cases).
-ghost use Rattle.std.specs.Prelude.{◌≡◌, ◌≤◌, length};
-ghost use Rattle.text.specs.Printed.{head_line as headLine};
+ghost use Rattle.std.specs.Prelude.{◌≤◌, length};
 
 use case_files::{
-    KINDS_LINE, MOST_CASES, head_line, letters_of, load_case, load_sets, write_result,
+    KINDS_LINE, MOST_CASES, head_line, letters_of, load_case, load_sets, result_line,
 };
 use files::{LONG, SHORT};
 use machine_calls::Answer;
 use machine_tag_calls::{fire, push, run, take};
 use machine_tag_start::start;
+use machine_tag_valid::TAGGED_NEED;
 use sheet_fields::field::field_in;
 use std::rt::Files;
-use text::{HEAD_LINE, NUMBER_FIELD, RESULT_BYTES, SET_BYTES, VALUE_BYTES};
-
-// What a machine with tags needs.
-const TAGGED_BYTES: usize = 319856;
+use text::{NUMBER_FIELD, RESULT_BYTES, RESULT_LINE, SET_BYTES, VALUE_BYTES};
 
 // The first field of a call's line, a number as calls.txt and what is printed have it; any other than these is a run.
 const START: u32 = 0;
@@ -51,15 +48,8 @@ impl<'a> Sets<'a> {
     }
 }
 
-// What a call answers as a line.
-fn line(call: u32, refusal: u32, count: u32) -> [u8; HEAD_LINE]
-    ensures { result ≡ headLine call refusal count }
-{
-    head_line(call, refusal, count)
-}
-
 fn write_answer(rt: &impl Print, call: u32, a: Answer) {
-    let _ = rt.write_all(&line(call, a.refusal, a.count));
+    let _ = rt.write_all(&head_line(call, a.refusal, a.count));
 }
 
 // Takes a tag's result, and writes the answer and the result.
@@ -68,7 +58,9 @@ fn show_take(rt: &impl Print, mem: &mut [u8], tag: u32) {
     let a = take(mem, tag, &mut result);
     write_answer(rt, TAKE, a);
     if a.refusal == 0 {
-        write_result(rt, &result, a.count);
+        let mut text = [0u8; RESULT_LINE];
+        let n = result_line(&mut text, &result, a.count);
+        let _ = rt.write_all(&text[..n]);
     }
 }
 
@@ -97,9 +89,9 @@ fn show_call(rt: &impl Print, mem: &mut [u8], sets: Sets<'_>, line: &[u8])
 
 // Starts a machine and makes the calls of a list one after another.
 fn show_machine(rt: &impl Print, sheet: &[u8], kinds: &[u8], sets: Sets<'_>, calls: &[u8]) {
-    let mut mem = [0u8; TAGGED_BYTES];
+    let mut mem = [0u8; TAGGED_NEED];
     let a = start(sheet, kinds, &mut mem);
-    let _ = rt.write_all(&line(START, a.refusal, a.row));
+    let _ = rt.write_all(&head_line(START, a.refusal, a.row));
     if a.refusal == 0 {
         for call in calls.chunks_exact(CALL_LINE) {
             show_call(rt, &mut mem, sets, call);

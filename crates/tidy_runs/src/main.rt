@@ -5,8 +5,8 @@
 ghost use Rattle.std.specs.Prelude.{◌≡◌, ◌≤◌};
 ghost use Rattle.text.specs.Printed.{head_line as headLine};
 
-use case_files::{MOST_CASES, head_line, open_case};
-use files::{LONG, read_full};
+use case_files::{MOST_CASES, head_line, read_case};
+use files::LONG;
 use sheet_fields::layout::{MOST_ROWS, ROW_BYTES};
 use sheet_tidy::{TidyAnswer, tidy};
 use std::rt::Files;
@@ -34,9 +34,8 @@ fn write_tidied(rt: &impl Print, sheet: &[u8]) {
 fn show<R: Files + Print>(rt: &R, k: u32) -> Option<()>
     requires { k ≤ 999 }
 {
-    let mut file = open_case(rt, k, "formula.txt")?;
     let mut sheet = [0u8; LONG];
-    let n = read_full(&mut file, &mut sheet);
+    let n = read_case(rt, k, "formula.txt", &mut sheet)?;
     write_tidied(rt, &sheet[..n]);
     Some(())
 }

@@ -1,41 +1,15 @@
 use native.Mathlib.Omega.{arith}
 use Prim.Native.Nat.{ℕ, ◌+◌, ◌-◌, ◌^◌, ◌<◌, ◌≤◌}
-use mathlib.Core.Bool.{false}
 use mathlib.Core.Path.{◌≡◌, sym, ◌∙◌, ap}
 use lib.ListN.{get_or}
 use Rattle.std.specs.Char.{is_ascii_digit}
 use native.Mathlib.Nat.{pow-le-pow_right, lt_of_lt_of_le}
-use native.Mathlib.Decide.{dec_lt}
-use mathlib.Core.List.{List}
-use lib.ListN.{length}
-use lib.Seq.{slice}
-use Rattle.std.proofs.Common.{take, drop, None}
-use Rattle.std.proofs.lemmas.List.{get_or-take, get_or-drop, length-take-le}
-use Rattle.std.proofs.Math.ListN.{length-drop}
-use Rattle.formula.specs.Sheet.{digits_of}
-use Rattle.sheet_fields.proofs.FieldLaws.{grows, digits_more, digits_low, digits-high, digits-end}
+use Rattle.sheet_fields.proofs.FieldLaws.{grows, digits_more, digits-no-digit, digits-end, cut-at, cut-long}
 use Rattle.text_read.proofs.values.digits.Goals as goal
 
 -- v has at most k + 1 digits
 small : (v k : ℕ) → v < 10 ^ (k + 1) → k ≤ 9 → v < 10000000000
 small v k h l = lt_of_lt_of_le h (pow-le-pow_right (omega arith) {i = k + 1} {j = 10} (omega arith))
-
-above : (b : ℕ) → is_ascii_digit b ≡ false → 48 ≤ b → 57 < b
-above b e h = grind arith
-
-digits-no-digit : (s : List ℕ) (i end v : ℕ) → i < end → end ≤ length s → is_ascii_digit (get_or s i 0) ≡ false → None ≡ digits_of v (slice i end s)
-digits-no-digit s i end v h k e = go (dec_lt (get_or s i 0) 48)
-  where
-    go : Dec (get_or s i 0 < 48) → None ≡ digits_of v (slice i end s)
-    go (yes p) = digits_low s i end h k v p
-    go (no p) = digits-high s i end h k v (above (get_or s i 0) e (omega arith))
-
--- The bytes from `from` to `end` as the code goes over them.
-cut-at : (s : List ℕ) (from end i : ℕ) → from + i < end → get_or (take (end - from) (drop from s)) i 0 ≡ get_or s (from + i) 0
-cut-at s from end i h = get_or-take (end - from) (drop from s) i 0 (omega arith) ∙ get_or-drop from s i 0
-
-cut-long : (s : List ℕ) (from end : ℕ) → from ≤ end → end ≤ length s → length (take (end - from) (drop from s)) ≡ end - from
-cut-long s from end h k = length-take-le (end - from) (drop from s) (simp length-drop (omega arith))
 
 pub loop-b-init : goal.loop-b-init
 loop-b-init c = let e : c.args.from + 0 ≡ c.args.from = omega arith in (omega arith, rw e)
