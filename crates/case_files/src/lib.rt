@@ -1,7 +1,7 @@
 #![tactic(auto)]
 // What the programs over stored cases share. Case k, from 1 on, has its files in folder k of the working directory, whose name has three
 // digits; its answers are printed as lines.
-ghost use Rattle.std.specs.Prelude.{◌≡◌, ◌*◌, ◌-◌, ◌≤◌, min, length, take, IfOk, IfSome};
+ghost use Rattle.std.specs.Prelude.{◌≡◌, ◌+◌, ◌*◌, ◌-◌, ◌%◌, ◌≤◌, min, length, take, IfSome};
 ghost use Rattle.files.specs.Counts.{IsPrefixLen};
 ghost use Rattle.text.specs.Printed.{head_line as headLine};
 ghost use Rattle.case_files.specs.Paths.{case_path};
@@ -9,7 +9,6 @@ ghost use Rattle.case_files.specs.Results.{shown_result};
 
 use arrayvec::ArrayString;
 use files::{LONG, open_read, read_full};
-use std::fmt::{self, Write};
 use std::rt::Files;
 use text::{HEAD_LINE, RESULT_BYTES, RESULT_LINE, VALUE_FIELD};
 use text_print::{put_head, put_results};
@@ -25,17 +24,30 @@ const MOST_INPUTS: usize = 32;
 // The width of the widest result set.
 const MOST_WIDTH: usize = 16;
 
-// A folder's name, a slash and the longest name, formula.txt.
+// The longest name, formula.txt; before it stand a folder's three digits and a slash.
+const LONGEST_NAME: usize = 11;
+
 const PATH: usize = 15;
 
-// The path of the file of case k that has this name.
-fn path(k: u32, name: &str) -> Result<ArrayString<PATH>, fmt::Error>
-    requires { k ≤ 999 }
-    ensures { IfOk result (λ p. p.bytes ≡ case_path k name.now) }
+// The last digit of k.
+fn digit(k: u32) -> char
+    ensures { result ≡ 48 + k % 10 }
+{
+    char::from(b'0' + (k % 10) as u8)
+}
+
+// The path of the file of case k that has this name. Not by `write!`, of which no contract says that it succeeds.
+fn path(k: u32, name: &str) -> ArrayString<PATH>
+    requires { length name.now ≤ 11 }
+    ensures { result.bytes ≡ case_path k name.now }
 {
     let mut path = ArrayString::new();
-    write!(path, "{k:03}/{name}")?;
-    Ok(path)
+    path.push(digit(k / 100));
+    path.push(digit(k / 10));
+    path.push(digit(k));
+    path.push('/');
+    path.push_str(name);
+    path
 }
 
 // Reads as much of the file of case k that has this name as fits, none where it is missing.
@@ -43,7 +55,10 @@ pub fn read_case<R: Files>(files: &R, k: u32, name: &str, buf: &mut [u8]) -> Opt
     requires { k ≤ 999 }
     ensures { IfSome result (λ n. IsPrefixLen n buf.new) }
 {
-    let path = path(k, name).ok()?;
+    if LONGEST_NAME < name.len() {
+        return None;
+    }
+    let path = path(k, name);
     let mut file = open_read(files, path.as_bytes())?;
     Some(read_full(&mut file, buf))
 }

@@ -3,11 +3,12 @@
 // written no contract can say; that the parts belong together is said here.
 pub mod opening; // opening.rt: the tests and the first line
 
-ghost use Rattle.std.specs.Prelude.{◌≡◌, ◌≤◌, length, IfSome};
+ghost use Rattle.std.specs.Prelude.{◌≡◌, ◌+◌, ◌≤◌, length, IfSome};
 ghost use Rattle.files.specs.Counts.{IsPrefixLen};
 ghost use Rattle.session.specs.Reading.{Continued, SheetRead};
-ghost use Rattle.session.specs.Output.{most_sheet_bytes};
+ghost use Rattle.session.specs.Output.{most_sheet_bytes, most_set_bytes};
 ghost use Rattle.session.specs.Passes.{out_bytes};
+ghost use Rattle.session.specs.Opening.{kinds_read};
 ghost use Rattle.session.specs.Ending.{Proceeds, RepeatsTo};
 
 use crate::opening::open;
@@ -75,6 +76,22 @@ fn load<R: Files>(files: &R, path: &[u8], buf: &mut [u8]) -> usize
     }
 }
 
+// Reads a kinds line: no right one is longer than what is read, so what stands behind it makes no difference.
+fn load_kinds<R: Files>(files: &R, path: &[u8], line: &mut [u8]) -> usize
+    requires { kinds_read ≡ length line.old }
+    ensures { IsPrefixLen result line.new }
+{
+    load(files, path, line)
+}
+
+// Reads the sets, and of a file with more bytes than one may have the byte that tells so.
+fn load_sets<R: Files>(files: &R, path: &[u8], sets: &mut [u8]) -> usize
+    requires { most_set_bytes + 1 ≡ length sets.old }
+    ensures { IsPrefixLen result sets.new }
+{
+    load(files, path, sets)
+}
+
 // Writes the first part, and repeats until every set is taken. It ends since each repetition
 // leaves fewer sets to take and firings to make (session/specs/Onward).
 fn repeat(
@@ -108,8 +125,8 @@ pub fn run<R: Files + Print>(rt: &R, formula: &[u8], kinds: &[u8], file: &[u8]) 
     let mut mem = [0u8; LONG];
     let mut out = [0u8; LONG];
     let sheet = read_sheet(rt, formula, &mut first);
-    let told = load(rt, kinds, &mut line);
-    let n = load(rt, file, &mut sets);
+    let told = load_kinds(rt, kinds, &mut line);
+    let n = load_sets(rt, file, &mut sets);
     let length = sheet.length;
     let opened = open(
         &first[..length],
