@@ -1,2 +1,3 @@
+pub mod KnownRows
 pub mod LowerRows
 pub mod Told

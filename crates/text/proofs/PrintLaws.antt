@@ -2,7 +2,7 @@
 use Prim.Native.Nat.{ℕ, zero, suc, ◌+◌, ◌*◌, ◌-◌, ◌/◌, ◌%◌, ◌≤◌, ◌<◌}
 use Rattle.std.specs.Prelude.{◌≡◌, Bool, ◌&&◌, pos, negsuc, length, take, set, replicate, eqb}
 use Rattle.std.proofs.Math.Path.{refl, sym, ap}
-use Rattle.std.proofs.Common.{◌∙◌, add-one, length-append, length-set, length-drop, take_at, drop_at, drop-drop, length-take-le}
+use Rattle.std.proofs.Common.{◌∙◌, add-one, length-append, length-set, length-drop, take_at, drop_at, drop-drop, length-take-le, take-suc-set}
 use Rattle.std.proofs.Math.Bool.{true, false}
 use Rattle.std.proofs.lemmas.Bool.{false≢true}
 use mathlib.Core.List.{List, [], ◌∷◌, ◌++◌, append_assoc, append-nil}
@@ -216,6 +216,11 @@ lent-part l at n v e h =
     rw (drop-drop n at l) (sym (append_assoc (take at l) v (drop (at + n) l)) ∙ sym (written-part l at n v e h))
 
 -- ---- spaces and the character before a number, byte by byte
+pub space-more : (l : List ℕ) (i : ℕ) → i < length l → take i l ≡ replicate i 32 → take (i + 1) (set l i 32) ≡ replicate (i + 1) 32
+space-more l i h e =
+    rw add-one
+    (take-suc-set l i 32 h ∙ rw e (replicate-append-replicate i 1 32 ∙ rw add-one refl))
+
 space-last : (n : ℕ) → replicate {A = ℕ} n 32 ++ (32 ∷ []) ≡ replicate (suc n) 32
 space-last n = replicate-append-replicate n 1 32 ∙ rw add-one refl
 
