@@ -77,10 +77,13 @@ fn kind_tests(
             row: 0,
         });
     }
-    at_row(
-        Refusal::KindsBroken,
-        test_kinds(fields, widths, n, free, line),
-    )
+    match test_kinds(fields, widths, n, free, line) {
+        Ok(()) => Ok(()),
+        Err(row) => Err(Refused {
+            refusal: Refusal::KindsBroken,
+            row,
+        }),
+    }
 }
 
 // Tests 8, 9, 17, 18 and 10 of n rows in these places.
