@@ -37,6 +37,7 @@ fn digit(k: u32) -> char
 }
 
 // The path of the file of case k that has this name. Not by `write!`, of which no contract says that it succeeds.
+#[tactic(auto, unfolding(crate::specs::Paths::case_path, crate::specs::Paths::digit_at))]
 fn path(k: u32, name: &str) -> ArrayString<PATH>
     requires { length name.now ≤ 11 }
     ensures { result.bytes ≡ case_path k name.now }
