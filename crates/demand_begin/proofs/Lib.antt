@@ -3,6 +3,7 @@ pub mod BitsRise
 pub mod FormedGraphs
 pub mod Lent
 pub mod MadeSound
+pub mod PortLaws
 pub mod Positions
 pub mod StandsValid
 pub mod StartCases

@@ -245,9 +245,7 @@ fn stretch_ok(q: &[u8]) -> bool
     ensures { result ≡ stretch_ok q.now }
 {
     let n = machine_queue::waiting(q);
-    n == 0
-        || (5 * n < q.len()
-            && (0..n).all(|j| value::bytes::is_value(value::bytes::load(q, 5 * j + 1))))
+    5 * n < q.len() && (0..n).all(|j| value::bytes::is_value(value::bytes::load(q, 5 * j + 1)))
 }
 
 fn link_ok(mem: &[u8], links: Stretches, l: usize) -> bool

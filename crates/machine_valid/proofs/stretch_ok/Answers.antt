@@ -1,6 +1,5 @@
-use Rattle.std.proofs.Common.{rules, tests, ◌≡◌, ◌+◌, ◌*◌, ◌≤◌, sym, ◌∙◌, refl, arith, length}
+use Rattle.std.proofs.Common.{rules, tests, ◌+◌, ◌*◌, arith, length}
 use borrow.Author.Tests.{le-leb, lt-leb}
-use Rattle.machine_valid.specs.Below.{all_below}
 use Rattle.machine_valid.specs.Valid.{token_ok, stretch_ok}
 use Rattle.machine_queue.specs.Stretch.{waiting}
 use Rattle.machine_valid.proofs.Ranges.{below_from_all}
@@ -16,9 +15,3 @@ pub returns-else-n-q : goal.returns-else-n-q
 unfolding stretch_ok
 returns-else-n-q c =
     simp (lt-leb (5 * waiting c.args.q.now + 1) (length c.args.q.now) (omega (arith, c.waiting-n.ensures.0))) (search rules)
-
-pub returns-then-n-eq0 : goal.returns-then-n-eq0
-unfolding stretch_ok all_below
-returns-then-n-eq0 c =
-    let none : waiting c.args.q.now ≡ 0 = sym c.waiting-n.ensures.0 ∙ c.if-n-eq0.true in
-    rw (c.if-n-eq0.true, none, le-leb 1 (length c.args.q.now) (omega (arith, c.requires.0))) refl
