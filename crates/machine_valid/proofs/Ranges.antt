@@ -17,7 +17,7 @@ use Rattle.std.proofs.lemmas.Iterator.Search.{all_from_yields_List}
 use Rattle.machine_valid.specs.Below.{all_below}
 
 -- the first number apart
-below-front : (n : ℕ) (f : ℕ → Bool) → all_below (suc n) f ≡ f 0 && all_below n (λ i. f (suc i))
+pub below-front : (n : ℕ) (f : ℕ → Bool) → all_below (suc n) f ≡ f 0 && all_below n (λ i. f (suc i))
 unfolding all_below
 below-front zero f = sym (and-true (f 0))
 below-front (suc n) f = rw (below-front n f) (and_assoc (f 0) (all_below n (λ i. f (suc i))) (f (suc n)))

@@ -12,7 +12,7 @@ ghost use Rattle.machine_valid.specs.Ports.{apart, nones, shaped, well_ported};
 use machine_firing::NOWHERE;
 use machine_layout::{
     FIRST_INPUT, FIRST_OUTPUT, SECOND_INPUT, SECOND_OUTPUT, Stretches, THIRD_INPUT, THIRD_OUTPUT,
-    name_at,
+    TOKEN_BYTES, name_at,
 };
 
 // The four bytes of two names that are none.
@@ -240,12 +240,26 @@ pub fn operators_ok(mem: &[u8], n: usize) -> bool
     (0..n).all(|i| operator_ok(mem, links, i))
 }
 
+// A function of its own when compiled: in the walk over links its loop took the registers that this needs for links without a token.
+#[inline(never)]
+fn tokens_ok(q: &[u8]) -> bool
+    requires { (least_size ≤ length q.now) × (length q.now ≤ most_size) }
+    ensures { result ≡ stretch_ok q.now }
+{
+    let end = TOKEN_BYTES * machine_queue::waiting(q) + 1;
+    if q.len() < end {
+        return false;
+    }
+    let mut tokens = q[1..end].chunks_exact(TOKEN_BYTES);
+    tokens.all(|token| value::bytes::is_value(value::bytes::load(token, 0)))
+}
+
+// Most links have no token, and then nothing else is looked at.
 fn stretch_ok(q: &[u8]) -> bool
     requires { (least_size ≤ length q.now) × (length q.now ≤ most_size) }
     ensures { result ≡ stretch_ok q.now }
 {
-    let n = machine_queue::waiting(q);
-    5 * n < q.len() && (0..n).all(|j| value::bytes::is_value(value::bytes::load(q, 5 * j + 1)))
+    machine_queue::waiting(q) == 0 || tokens_ok(q)
 }
 
 fn link_ok(mem: &[u8], links: Stretches, l: usize) -> bool
@@ -257,6 +271,8 @@ fn link_ok(mem: &[u8], links: Stretches, l: usize) -> bool
     stretch_ok(&mem[a..e])
 }
 
+// Never inlined: in the walk over the planes of a machine with tags the counter stood in memory, and the test took twice as long.
+#[inline(never)]
 pub fn links_ok(mem: &[u8], links: Stretches, k: usize) -> bool
     requires { (need_from links.base links.size ≤ length mem.now) × (k ≤ most_links) }
     ensures { result ≡ all_below k (link_ok_from mem.now links.base links.size) }
